@@ -1,0 +1,79 @@
+// Rows and squares of numbers: the functions that several crates need. Each answers on every input.
+ghost use mathlib.Core.Path.{_≡_};
+ghost use Prim.Native.Nat.{ℕ, _<_};
+ghost use lib.ListN.{getD};
+ghost use Rattle.grid.specs.Grid.{at, Square, Row};
+ghost use Rattle.grid.specs.Lines.{rowSum, colSum};
+
+// How many growers, and how many pilots, a square has room for.
+pub const SIDE: usize = 16;
+
+// A number at the width that sums are taken in.
+pub fn wide(x: u16) -> u64
+    ensures { λ r. ⌜ (r ≡ x) × (r < 65536) ⌝ }
+{
+    x as u64
+}
+
+// The number at a place of a list, 0 past its end.
+pub fn entry(list: &[u16], place: usize) -> u16
+    ensures { λ r. ⌜ r ≡ getD (now (list .entry)) place 0 ⌝ }
+{
+    if place < list.len() { list[place] } else { 0 }
+}
+
+// One cell, 0 outside the square.
+pub fn cell(sq: [[u16; 16]; 16], i: usize, j: usize) -> u64
+    ensures { λ r. ⌜ (r ≡ at sq i j) × (r < 65536) ⌝ }
+{
+    if i < SIDE {
+        if j < SIDE {
+            return wide(sq[i][j]);
+        }
+    }
+    0
+}
+
+// How much of a row or a column lies within the square.
+fn within(count: usize) -> usize
+    ensures { λ r. ⌜ (r < 17) × (count < 17 → r ≡ count) × (16 < count → r ≡ 16) ⌝ }
+{
+    if count < SIDE { count } else { SIDE }
+}
+
+// The first m cells of row i.
+pub fn row_sum(sq: [[u16; 16]; 16], i: usize, m: usize) -> u64
+    ensures { λ r. ⌜ r ≡ rowSum sq i m ⌝ }
+{
+    let end = within(m);
+    let mut total: u64 = 0;
+    for j in 0..end {
+        total += cell(sq, i, j);
+    }
+    total
+}
+
+// The first n cells of column j.
+pub fn col_sum(sq: [[u16; 16]; 16], j: usize, n: usize) -> u64
+    ensures { λ r. ⌜ r ≡ colSum sq j n ⌝ }
+{
+    let end = within(n);
+    let mut total: u64 = 0;
+    for i in 0..end {
+        total += cell(sq, i, j);
+    }
+    total
+}
+
+// A square and a row of zeros: called, and not written out, since a proof carries `[[0; 16]; 16]` as 256 terms.
+pub fn zeros() -> [[u16; 16]; 16]
+    ensures { λ r. ⌜ Square r × ((i j : ℕ) → at r i j ≡ 0) ⌝ }
+{
+    [[0u16; 16]; 16]
+}
+
+pub fn zero_row() -> [u16; 16]
+    ensures { λ r. ⌜ Row r × ((j : ℕ) → getD r j 0 ≡ 0) ⌝ }
+{
+    [0u16; 16]
+}

@@ -1,0 +1,15 @@
+pub mod Finding
+pub mod Gains
+pub mod Sittings
+pub mod Same
+pub mod Deals
+pub mod Adding
+pub mod Steps
+pub mod Measure
+pub mod Jump
+pub mod Squares
+pub mod Rounding
+pub mod End
+pub mod Existence
+pub mod BestTotal
+pub mod OneGain
