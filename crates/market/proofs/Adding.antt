@@ -4,7 +4,9 @@ use Prim.Native.Nat.{ℕ, _+_, _≤_, _<_}
 use mathlib.Core.Path.{_≡_, refl, ap₂}
 use mathlib.Core.Logic.{_≢_}
 use native.Mathlib.Omega.{arith}
-use Rattle.market.specs.Market.{Ticket, Deal, Tariff, Free, sumDeals, usedByGrower, usedByPilot}
+use Rattle.market.specs.declared.Deal.{Deal}
+use Rattle.market.specs.declared.Deal.the-variants.{Tariff, Free}
+use Rattle.market.specs.Market.{Ticket, sumDeals, usedByGrower, usedByPilot}
 use Rattle.market.specs.Method.{Held, Slot, byTariff, oldFree, newFree, hoursOf, dealOf}
 use Rattle.market.specs.Steps.{SameExcept, here, same, Added}
 use Rattle.grid.proofs.Sums.{sum-same, sum-one}

@@ -7,7 +7,8 @@ use native.Mathlib.Nat.{mul-le-mul-left, mul-le-mul-right}
 use native.Mathlib.Decide.{decLt}
 use native.Mathlib.Omega.{arith}
 use Rattle.grid.specs.Sum.{sum, sumSquare}
-use Rattle.market.specs.Market.{Ticket, Settlement, DealHours, Tariff, Free, usedByGrower, usedByPilot, Fits, Sound}
+use Rattle.market.specs.declared.Deal.the-variants.{Tariff, Free}
+use Rattle.market.specs.Market.{Ticket, Settlement, DealHours, usedByGrower, usedByPilot, Fits, Sound}
 use Rattle.market.specs.Market.{earnedByGrower, SpareOfGrower, SpareOfPilot, freeHour, otherDeal}
 use Rattle.market.specs.Totals.{NoTariffDeals, gainTotal, growerStandbyTotal, pilotStandbyTotal, totalWorth}
 use Rattle.grid.proofs.Sums.{sum-le, sum-same, sum-zero, sum-tight, sum-add, sum-scale}

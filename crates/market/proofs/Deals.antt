@@ -5,7 +5,9 @@ use mathlib.Core.Path.{_≡_}
 use native.Mathlib.Decide.{decLe, decLt}
 use native.Mathlib.Omega.{arith}
 use borrow.Author.Tests.{le-leb, lt-leb, lt-ltb, le-ltb}
-use Rattle.market.specs.Market.{Ticket, Deal, Tariff, Free, cap, sumDeals, usedByGrower}
+use Rattle.market.specs.declared.Deal.{Deal}
+use Rattle.market.specs.declared.Deal.the-variants.{Tariff, Free}
+use Rattle.market.specs.Market.{Ticket, cap, sumDeals, usedByGrower}
 use Rattle.market.specs.Method.{Held, Slot, byTariff, oldFree, newFree, hoursOf, dealOf, slotFor, offer, worth, filled}
 use Rattle.market.specs.Steps.{BestDeal, Late}
 use Rattle.grid.proofs.Sums.{sum-le, sum-tight}

@@ -12,7 +12,8 @@ use lib.Dec.{eqb, ltb}
 use borrow.Author.Tests.{eq-eqb, ne-eqb, lt-ltb, le-ltb}
 use Rattle.grid.specs.Pick.{pick}
 use Rattle.grid.specs.Sum.{sum}
-use Rattle.market.specs.Market.{Ticket, Deal, Settlement, cap, usedByGrower, usedByPilot, Sound}
+use Rattle.market.specs.declared.Deal.{Deal}
+use Rattle.market.specs.Market.{Ticket, Settlement, cap, usedByGrower, usedByPilot, Sound}
 use Rattle.market.specs.Method.{Held, Slot, byTariff, oldFree, newFree, hoursOf, slotFor, offer, Invariant, Done, settled}
 use Rattle.market.specs.Steps.{SameExcept, here, same, Added, BestDeal, Raised, Late, NoLateHour, lateOfPair, lateOfPilot, measure}
 use Rattle.market.specs.Squares.{inSquares, setCell}

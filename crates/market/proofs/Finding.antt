@@ -7,7 +7,8 @@ use native.Mathlib.Nat.{le-refl}
 use native.Mathlib.Decide.{decLe, decLt, ℕ-discrete}
 use native.Mathlib.Omega.{arith}
 use Rattle.grid.specs.Sum.{sum}
-use Rattle.market.specs.Market.{Deal, Tariff, Free}
+use Rattle.market.specs.declared.Deal.{Deal}
+use Rattle.market.specs.declared.Deal.the-variants.{Tariff, Free}
 use Rattle.grid.proofs.Sums.{term-le-sum}
 
 -- what holds below k and of k holds below k + 1

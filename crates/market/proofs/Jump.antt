@@ -6,7 +6,9 @@ use mathlib.Core.Path.{_≡_, refl}
 use mathlib.Core.Logic.{_⊎_, inl, inr, ⊎-elim}
 use native.Mathlib.Nat.{le-refl, mul-le-mul-right}
 use native.Mathlib.Omega.{arith}
-use Rattle.market.specs.Market.{Ticket, Deal, Tariff, Free, cap}
+use Rattle.market.specs.declared.Deal.{Deal}
+use Rattle.market.specs.declared.Deal.the-variants.{Tariff, Free}
+use Rattle.market.specs.Market.{Ticket, cap}
 use Rattle.market.specs.Method.{Held, Slot, byTariff, oldFree, newFree, hoursOf, offer, worth, Fair, PilotLaw, Core, Invariant}
 use Rattle.market.specs.Steps.{Jump, toDo, measure}
 use Rattle.grid.proofs.Sums.{sum-lt}

@@ -6,7 +6,8 @@ use mathlib.Core.Logic.{_≢_}
 use native.Mathlib.Decide.{decLt}
 use native.Mathlib.Omega.{arith}
 use borrow.Author.Tests.{lt-ltb, le-ltb}
-use Rattle.market.specs.Market.{Ticket, Tariff, Free, usedByPilot}
+use Rattle.market.specs.declared.Deal.the-variants.{Tariff, Free}
+use Rattle.market.specs.Market.{Ticket, usedByPilot}
 use Rattle.market.specs.Method.{Held, Slot, byTariff, oldFree, newFree, hoursOf}
 use Rattle.market.specs.Steps.{SameExcept, SameBeside, here, same, Added, Raised, Late, lateOfPair, lateOfPilot, toDo, measure}
 use Rattle.grid.proofs.Sums.{sum-le, sum-same, sum-one}

@@ -5,7 +5,8 @@ use Prim.Native.Nat.{ℕ, _+_, _*_, _≤_, _<_}
 use mathlib.Core.Path.{_≡_, ap}
 use native.Mathlib.Nat.{mul-le-mul-left}
 use native.Mathlib.Omega.{arith}
-use Rattle.market.specs.Market.{Ticket, Settlement, DealHours, Tariff, Free, Fits, Sound}
+use Rattle.market.specs.declared.Deal.the-variants.{Tariff, Free}
+use Rattle.market.specs.Market.{Ticket, Settlement, DealHours, Fits, Sound}
 use Rattle.market.specs.Squares.{MoreIn}
 use Rattle.market.specs.Totals.{NoTariffDeals, totalWorth, mostHours, withGains}
 use Rattle.grid.proofs.Sums.{square-one, term-le-sum}

@@ -3,7 +3,9 @@
 use Prim.Native.Nat.{ℕ, _+_, _*_, _-_, _<_}
 use mathlib.Core.Path.{_≡_, sym, ap₂}
 use native.Mathlib.Omega.{arith}
-use Rattle.market.specs.Market.{Ticket, Settlement, Deal, Tariff, Free, cap, usedByGrower, usedByPilot, Welcome}
+use Rattle.market.specs.declared.Deal.{Deal}
+use Rattle.market.specs.declared.Deal.the-variants.{Tariff, Free}
+use Rattle.market.specs.Market.{Ticket, Settlement, cap, usedByGrower, usedByPilot, Welcome}
 use Rattle.market.specs.Market.{earnedByGrower, earnedByPilot, SpareOfGrower, SpareOfPilot, freeHour, otherDeal, Idle, Blocks, Sound}
 use Rattle.market.specs.Same.{SameTicket, SameSettlement}
 use Rattle.market.specs.Totals.{gainTotal, growerStandbyTotal, pilotStandbyTotal, totalWorth}

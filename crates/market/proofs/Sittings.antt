@@ -4,7 +4,9 @@ use Prim.Native.Nat.{ℕ, _≤_, _<_}
 use mathlib.Core.Path.{_≡_, refl}
 use native.Mathlib.Omega.{arith}
 use Rattle.grid.specs.Sum.{sum}
-use Rattle.market.specs.Market.{Deal, Tariff, Free, Feasible, Idle, Blocks, Sound, earnedByGrower}
+use Rattle.market.specs.declared.Deal.{Deal}
+use Rattle.market.specs.declared.Deal.the-variants.{Tariff, Free}
+use Rattle.market.specs.Market.{Feasible, Idle, Blocks, Sound, earnedByGrower}
 use Rattle.market.specs.Market.{SpareOfGrower, SpareOfPilot, freeHour, otherDeal}
 use Rattle.market.specs.Sittings.{ticketA, ticketB, ticketC, ticketD, sitting, sittingWith, Sittings}
 use Rattle.market.proofs.Finding.{upto}

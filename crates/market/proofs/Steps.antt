@@ -6,7 +6,9 @@ use mathlib.Core.Logic.{_≢_}
 use native.Mathlib.Nat.{le-refl, le-trans}
 use native.Mathlib.Decide.{decLe, decLt, ℕ-discrete}
 use native.Mathlib.Omega.{arith}
-use Rattle.market.specs.Market.{Ticket, Deal, Tariff, Free, cap, sumDeals, usedByGrower, usedByPilot}
+use Rattle.market.specs.declared.Deal.{Deal}
+use Rattle.market.specs.declared.Deal.the-variants.{Tariff, Free}
+use Rattle.market.specs.Market.{Ticket, cap, sumDeals, usedByGrower, usedByPilot}
 use Rattle.market.specs.Method.{Held, Slot, byTariff, oldFree, newFree, hoursOf, dealOf, offer, worth, Fair, filled, demandAbove}
 use Rattle.market.specs.Method.{PairLaw, GrowerLaw, PilotLaw, Core, Invariant}
 use Rattle.market.specs.Steps.{SameExcept, SameBeside, here, same, Added, BestDeal, Raised, NoLateHour}

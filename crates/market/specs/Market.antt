@@ -5,11 +5,8 @@
 use Prim.Native.Nat.{ℕ, _+_, _*_, _-_, _≤_, _<_}
 use mathlib.Core.Path.{_≡_}
 use Rattle.grid.specs.Sum.{sum}
-
--- A grower and a pilot have two deals. An hour by the tariff has a fixed gain for each of them. An hour of the free deal has
--- a joint gain, which they share as they agree.
-pub data Deal : Type 0 where
-  Tariff Free : Deal
+use Rattle.market.specs.declared.Deal.{Deal}
+use Rattle.market.specs.declared.Deal.the-variants.{Tariff, Free}
 
 pub record Ticket : Type 0 where
   -- how many there are

@@ -5,7 +5,9 @@ use mathlib.Core.Path.{_≡_}
 use mathlib.Core.Logic.{_≢_}
 use lib.Dec.{leb, ltb}
 use Rattle.grid.specs.Pick.{pick}
-use Rattle.market.specs.Market.{Deal, Tariff, Free, DealHours, Ticket, Settlement, cap, usedByGrower, usedByPilot}
+use Rattle.market.specs.declared.Deal.{Deal}
+use Rattle.market.specs.declared.Deal.the-variants.{Tariff, Free}
+use Rattle.market.specs.Market.{DealHours, Ticket, Settlement, cap, usedByGrower, usedByPilot}
 
 -- How an hour is held: by the tariff; in the free deal at the pilot's price, a new hour; or there at one eighteenth less,
 -- an old hour.

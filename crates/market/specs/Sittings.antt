@@ -3,7 +3,9 @@
 use Prim.Native.Nat.{ℕ, _<_}
 use lib.Dec.{eqb}
 use Rattle.grid.specs.Pick.{pick}
-use Rattle.market.specs.Market.{Deal, Tariff, Free, Ticket, Settlement, cap, Feasible, Idle, Blocks, Sound}
+use Rattle.market.specs.declared.Deal.{Deal}
+use Rattle.market.specs.declared.Deal.the-variants.{Tariff, Free}
+use Rattle.market.specs.Market.{Ticket, Settlement, cap, Feasible, Idle, Blocks, Sound}
 
 -- a ticket of one grower and one or two pilots, with no standby
 abbrev ticket : ℕ → ℕ → ℕ → ℕ → ℕ → ℕ → ℕ → (ℕ → ℕ) → Ticket

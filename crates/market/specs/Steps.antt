@@ -6,7 +6,9 @@ use mathlib.Core.Path.{_≡_}
 use lib.Dec.{ltb}
 use Rattle.grid.specs.Pick.{pick}
 use Rattle.grid.specs.Sum.{sum}
-use Rattle.market.specs.Market.{Deal, Tariff, Free, Ticket, cap, usedByGrower, usedByPilot}
+use Rattle.market.specs.declared.Deal.{Deal}
+use Rattle.market.specs.declared.Deal.the-variants.{Tariff, Free}
+use Rattle.market.specs.Market.{Ticket, cap, usedByGrower, usedByPilot}
 use Rattle.market.specs.Method.{Slot, byTariff, oldFree, newFree, Held, dealOf, hoursOf, offer, worth, Fair}
 
 -- g is f at the place b k l, unless that is the place a i j.

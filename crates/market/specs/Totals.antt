@@ -3,7 +3,8 @@
 use Prim.Native.Nat.{ℕ, _+_, _*_, _-_, min, _<_}
 use mathlib.Core.Path.{_≡_}
 use Rattle.grid.specs.Sum.{sum, sumSquare}
-use Rattle.market.specs.Market.{Free, DealHours, Ticket, usedByGrower, usedByPilot}
+use Rattle.market.specs.declared.Deal.the-variants.{Free}
+use Rattle.market.specs.Market.{DealHours, Ticket, usedByGrower, usedByPilot}
 
 module _ (t : Ticket) where
   abbrev pub NoTariffDeals : Type 0
