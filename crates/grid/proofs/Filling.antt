@@ -1,6 +1,6 @@
 -- Filling a square row by row in two loops, for any values: the invariant `Part` of both, and its steps.
 use mathlib.Core.Path.{_≡_, _∙_}
-use mathlib.Core.Logic.{⊎-elim, _⊎_}
+use mathlib.Core.Logic.{⊎-elim}
 use Prim.Native.Nat.{ℕ, _+_, _<_, _≤_}
 use native.Mathlib.Omega.{arith}
 use Rattle.grid.specs.Grid.{Grid, at, put, Square}
@@ -17,9 +17,15 @@ pub record Part (val : ℕ → ℕ → ℕ) (m i j : ℕ) (q : Grid) : Type 0 wh
 
 module _ (val : ℕ → ℕ → ℕ) (m : ℕ) where
   pub part-start : (q : Grid) → Square q → ((i j : ℕ) → at q i j ≡ 0) → Part val m 0 0 q
-  part-start q s z = record { square = s; past = λ a b h _. absurd (omega arith); here = λ a b e h. absurd (omega arith); rest = λ a b _ _. z a b }
+  part-start q s z = record {
+    square = s;
+    past = λ a b h _. absurd (omega arith);
+    here = λ a b e h. absurd (omega arith);
+    rest = λ a b _ _. z a b;
+  }
 
-  pub part-put : (q : Grid) (i j v : ℕ) → i < 16 → j < m → m ≤ 16 → v < 65536 → v ≡ val i j → Part val m i j q → Part val m i (j + 1) (put q i j v)
+  pub part-put : (q : Grid) (i j v : ℕ) → i < 16 → j < m → m ≤ 16 → v < 65536 → v ≡ val i j → Part val m i j q →
+      Part val m i (j + 1) (put q i j v)
   part-put q i j v hi hj hm hv e p = record {
     square = put-square q (p .square) i j v hi (omega arith) hv;
     past = λ a b ha hb. at-put-other q i j v a b (λ f. absurd (omega (arith, f .0))) ∙ p .past a b ha hb;
@@ -42,5 +48,6 @@ module _ (val : ℕ → ℕ → ℕ) (m : ℕ) where
   part-end q i n l h p = record {
     square = p .square;
     inner = λ a b ha hb. p .past a b (omega arith) hb;
-    outer = λ a b o. ⊎-elim (λ x. p .rest a b (λ y. absurd (omega arith)) (λ y. omega arith)) (λ x. p .rest a b (λ y. x) (λ y. omega arith)) o;
+    outer = λ a b o.
+        ⊎-elim (λ x. p .rest a b (λ y. absurd (omega arith)) (λ y. omega arith)) (λ x. p .rest a b (λ y. x) (λ y. omega arith)) o;
   }

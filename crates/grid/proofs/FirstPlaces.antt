@@ -23,7 +23,8 @@ unfolding first
 first-is f zero r l n h = omega arith
 first-is f (suc k) zero l n h = rw (h (omega arith))
 first-is f (suc k) (suc r) l n h =
-    rw (n 0 (omega arith)) (ap suc (first-is (λ p. f (suc p)) k r (le-of-suc-le-suc l) (λ q a. n (suc q) (omega arith)) (λ a. h (omega arith))))
+    rw (n 0 (omega arith))
+    (ap suc (first-is (λ p. f (suc p)) k r (le-of-suc-le-suc l) (λ q a. n (suc q) (omega arith)) (λ a. h (omega arith))))
 
 no-sooner : (f : ℕ → Bool) (r : ℕ) → f 0 ≡ false → none (λ p. f (suc p)) r → none f (suc r)
 no-sooner f r e n zero h = e
@@ -31,7 +32,11 @@ no-sooner f r e n (suc q) h = n q (le-of-suc-le-suc h)
 
 one-more : (f : ℕ → Bool) (k r : ℕ) (b : Bool) → f 0 ≡ b → IsFirst (λ p. f (suc p)) k r → IsFirst f (suc k) (pick b 0 (suc r))
 one-more f k r true e s = record { below = zero-le; before = none-zero f; there = λ _. e }
-one-more f k r false e s = record { below = suc-le-suc (s .below); before = no-sooner f r e (s .before); there = λ h. s .there (le-of-suc-le-suc h) }
+one-more f k r false e s = record {
+  below = suc-le-suc (s .below);
+  before = no-sooner f r e (s .before);
+  there = λ h. s .there (le-of-suc-le-suc h);
+}
 
 pub first-first : (f : ℕ → Bool) (k : ℕ) → IsFirst f k (first f k)
 unfolding first

@@ -63,4 +63,3 @@ inside n (suc m) p h = record {
 
 pub cell-place : (m i j : ℕ) → j < m → ((i * m + j) / m ≡ i) × ((i * m + j) % m ≡ j)
 cell-place m i j h = (quot m i j h, rest m i j h)
-

@@ -1,6 +1,6 @@
 pub mod Finding
 pub mod Gains
-pub mod Sittings
+pub mod Examples
 pub mod Same
 pub mod Deals
 pub mod Adding

@@ -1,5 +1,5 @@
 pub mod Market
-pub mod Sittings
+pub mod Examples
 pub mod Same
 pub mod Method
 pub mod Steps

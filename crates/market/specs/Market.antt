@@ -1,6 +1,6 @@
 -- The market: growers and pilots, what each pair may agree on, and when a settlement between them is sound. The second half
--- follows the scope's section 'When a settlement is sound', line by line and in its words. A free hour is worth its owner's
--- standby, which is 0 there. Everywhere i and k are growers, j and l pilots, d and e deals.
+-- follows the section 'When a settlement is sound' of docs/FORMAT.md. A free hour is worth its owner's
+-- standby, which is 0 in today's tickets. Everywhere i and k are growers, j and l pilots, d and e deals.
 -- Assumes nothing.
 use Prim.Native.Nat.{ℕ, _+_, _*_, _-_, _≤_, _<_}
 use mathlib.Core.Path.{_≡_}

@@ -1,4 +1,4 @@
--- The scope's ten marked sittings hold of the definitions.
+-- The ten settlements of the examples are what they are said to be.
 -- Assumes nothing.
 use Prim.Native.Nat.{ℕ, _≤_, _<_}
 use mathlib.Core.Path.{_≡_, refl}
@@ -8,7 +8,7 @@ use Rattle.market.specs.declared.Deal.{Deal}
 use Rattle.market.specs.declared.Deal.the-variants.{Tariff, Free}
 use Rattle.market.specs.Market.{Feasible, Idle, Blocks, Sound, earnedByGrower}
 use Rattle.market.specs.Market.{SpareOfGrower, SpareOfPilot, freeHour, otherDeal}
-use Rattle.market.specs.Sittings.{ticketA, ticketB, ticketC, ticketD, sitting, sittingWith, Sittings}
+use Rattle.market.specs.Examples.{ticketA, ticketB, ticketC, ticketD, agreed, agreedWith, Examples}
 use Rattle.market.proofs.Finding.{upto}
 
 -- what is below 1 is 0, and what is below 2 is 0 or 1
@@ -34,7 +34,7 @@ deals2 : (Q : Deal → ℕ → ℕ → Type 0) → Q Tariff 0 0 → Q Tariff 0 1
 deals2 Q p p′ q q′ Tariff = pairs2 (Q Tariff) p p′
 deals2 Q p p′ q q′ Free = pairs2 (Q Free) q q′
 
-a1 : Sound ticketA (sitting 1 0 0)
+a1 : Sound ticketA (agreed 1 0 0)
 unfolding sum
 a1 = record {
   feasible = record {
@@ -51,22 +51,22 @@ a1 = record {
   nothingBlocks = deals _ (λ b. omega (arith, b .2)) (λ b. omega (arith, b .2));
 }
 
-a2 : Idle ticketA (sitting 0 0 0) Tariff 0 0
+a2 : Idle ticketA (agreed 0 0 0) Tariff 0 0
 unfolding sum
 a2 = record { unfilled = omega arith; grower = omega arith; pilot = omega arith; welcome = omega arith }
 
-a4 : ¬ Feasible ticketA (sitting 1 0 5)
+a4 : ¬ Feasible ticketA (agreed 1 0 5)
 a4 f = omega (arith, f .payNothing 0 0 (omega arith) (omega arith) refl)
 
-b1-spare : {w : ℕ} → SpareOfGrower ticketB (sittingWith 0 1 3) Free 0 1 w → 7 ≤ w
+b1-spare : {w : ℕ} → SpareOfGrower ticketB (agreedWith 0 1 3) Free 0 1 w → 7 ≤ w
 unfolding sum
 b1-spare (freeHour h) = absurd (omega arith)
 b1-spare (otherDeal Tariff l hl ne h) = absurd (omega arith)
 b1-spare (otherDeal Free l hl ne h) = two
-    (λ k. 0 < sittingWith 0 1 3 .hours Free 0 k → 7 ≤ earnedByGrower ticketB (sittingWith 0 1 3) Free 0 k)
+    (λ k. 0 < agreedWith 0 1 3 .hours Free 0 k → 7 ≤ earnedByGrower ticketB (agreedWith 0 1 3) Free 0 k)
     (λ h. omega arith) (λ h. absurd (omega arith)) l hl h
 
-b1 : Sound ticketB (sittingWith 0 1 3)
+b1 : Sound ticketB (agreedWith 0 1 3)
 unfolding sum
 b1 = record {
   feasible = record {
@@ -88,15 +88,15 @@ b1 = record {
 }
 
 -- the cheapest spares of a blocking free deal
-b2-grower : (w : ℕ) → SpareOfGrower ticketB (sittingWith 0 1 4) Free 0 1 w → 6 ≤ w
+b2-grower : (w : ℕ) → SpareOfGrower ticketB (agreedWith 0 1 4) Free 0 1 w → 6 ≤ w
 unfolding sum
 b2-grower w (freeHour h) = absurd (omega arith)
 b2-grower w (otherDeal Tariff l hl ne h) = absurd (omega arith)
 b2-grower w (otherDeal Free l hl ne h) = two
-    (λ k. 0 < sittingWith 0 1 4 .hours Free 0 k → 6 ≤ earnedByGrower ticketB (sittingWith 0 1 4) Free 0 k)
+    (λ k. 0 < agreedWith 0 1 4 .hours Free 0 k → 6 ≤ earnedByGrower ticketB (agreedWith 0 1 4) Free 0 k)
     (λ h. omega arith) (λ h. absurd (omega arith)) l hl h
 
-b2 : Blocks ticketB (sittingWith 0 1 4) Free 0 1
+b2 : Blocks ticketB (agreedWith 0 1 4) Free 0 1
 unfolding sum
 b2 = (
   6,
@@ -107,15 +107,15 @@ b2 = (
   omega arith,
 )
 
-b3-grower : (w : ℕ) → SpareOfGrower ticketB (sittingWith 1 1 0) Free 0 0 w → 7 ≤ w
+b3-grower : (w : ℕ) → SpareOfGrower ticketB (agreedWith 1 1 0) Free 0 0 w → 7 ≤ w
 unfolding sum
 b3-grower w (freeHour h) = absurd (omega arith)
 b3-grower w (otherDeal Tariff l hl ne h) = absurd (omega arith)
 b3-grower w (otherDeal Free l hl ne h) = two
-    (λ k. 0 < sittingWith 1 1 0 .hours Free 0 k → 7 ≤ earnedByGrower ticketB (sittingWith 1 1 0) Free 0 k)
+    (λ k. 0 < agreedWith 1 1 0 .hours Free 0 k → 7 ≤ earnedByGrower ticketB (agreedWith 1 1 0) Free 0 k)
     (λ h. absurd (omega arith)) (λ h. omega arith) l hl h
 
-b3 : Blocks ticketB (sittingWith 1 1 0) Free 0 0
+b3 : Blocks ticketB (agreedWith 1 1 0) Free 0 0
 unfolding sum
 b3 = (
   7,
@@ -129,19 +129,19 @@ b3 = (
 tariff-not-free : Tariff ≡ Free → ⊥
 tariff-not-free p = let z : _≡_ {A = ℕ} 0 1 = cc in omega arith
 
-c1-grower : (w : ℕ) → SpareOfGrower ticketC (sitting 1 0 0) Free 0 0 w → 5 ≤ w
+c1-grower : (w : ℕ) → SpareOfGrower ticketC (agreed 1 0 0) Free 0 0 w → 5 ≤ w
 unfolding sum
 c1-grower w (freeHour h) = absurd (omega arith)
 c1-grower w (otherDeal Tariff l hl ne h) = omega arith
 c1-grower w (otherDeal Free l hl ne h) = absurd (omega arith)
 
-c1-pilot : (w : ℕ) → SpareOfPilot ticketC (sitting 1 0 0) Free 0 0 w → 5 ≤ w
+c1-pilot : (w : ℕ) → SpareOfPilot ticketC (agreed 1 0 0) Free 0 0 w → 5 ≤ w
 unfolding sum
 c1-pilot w (freeHour h) = absurd (omega arith)
 c1-pilot w (otherDeal Tariff k hk ne h) = omega arith
 c1-pilot w (otherDeal Free k hk ne h) = absurd (omega arith)
 
-c1 : Blocks ticketC (sitting 1 0 0) Free 0 0
+c1 : Blocks ticketC (agreed 1 0 0) Free 0 0
 c1 = (
   5,
   5,
@@ -151,13 +151,13 @@ c1 = (
   omega arith,
 )
 
-c2-pilot : {w : ℕ} → SpareOfPilot ticketC (sitting 0 1 12) Tariff 0 0 w → 12 ≤ w
+c2-pilot : {w : ℕ} → SpareOfPilot ticketC (agreed 0 1 12) Tariff 0 0 w → 12 ≤ w
 unfolding sum
 c2-pilot (freeHour h) = absurd (omega arith)
 c2-pilot (otherDeal Tariff k hk ne h) = absurd (omega arith)
 c2-pilot (otherDeal Free k hk ne h) = omega arith
 
-c2 : Sound ticketC (sitting 0 1 12)
+c2 : Sound ticketC (agreed 0 1 12)
 unfolding sum
 c2 = record {
   feasible = record {
@@ -171,13 +171,13 @@ c2 = record {
 }
 
 -- the grower's hour in the deal itself is no spare for it
-d1-grower : {w : ℕ} → SpareOfGrower ticketD (sitting 0 1 5) Free 0 0 w → ⊥
+d1-grower : {w : ℕ} → SpareOfGrower ticketD (agreed 0 1 5) Free 0 0 w → ⊥
 unfolding sum
 d1-grower (freeHour h) = omega arith
 d1-grower (otherDeal Tariff l hl ne h) = omega arith
 d1-grower (otherDeal Free l hl ne h) = ne refl (omega arith)
 
-d1 : Sound ticketD (sitting 0 1 5)
+d1 : Sound ticketD (agreed 0 1 5)
 unfolding sum
 d1 = record {
   feasible = record {
@@ -190,5 +190,5 @@ d1 = record {
   nothingBlocks = deals _ (λ b. omega (arith, b .2)) (λ b. d1-grower (b .3 .0));
 }
 
-pub sittings : Sittings
-sittings = record { a1 = a1; a2 = a2; a3 = omega arith; a4 = a4; b1 = b1; b2 = b2; b3 = b3; c1 = c1; c2 = c2; d1 = d1 }
+pub examples : Examples
+examples = record { a1 = a1; a2 = a2; a3 = omega arith; a4 = a4; b1 = b1; b2 = b2; b3 = b3; c1 = c1; c2 = c2; d1 = d1 }

@@ -1,4 +1,4 @@
--- The scope's four tickets and ten marked sittings, as far as they say what is sound and why not.
+-- Four tickets and ten settlements of them, as far as they say what is sound and why not.
 -- Assumes nothing.
 use Prim.Native.Nat.{ℕ, _<_}
 use lib.Dec.{eqb}
@@ -40,20 +40,20 @@ abbrev both : (ℕ → ℕ) → (ℕ → ℕ) → Deal → ℕ → ℕ → ℕ
 both tariff free Tariff i j = tariff j
 both tariff free Free i j = free j
 
-abbrev pub sitting : ℕ → ℕ → ℕ → Settlement
-sitting tariff free pay = record { hours = both (λ j. tariff) (λ j. free); pay = λ i j. pay }
+abbrev pub agreed : ℕ → ℕ → ℕ → Settlement
+agreed tariff free pay = record { hours = both (λ j. tariff) (λ j. free); pay = λ i j. pay }
 
-abbrev pub sittingWith : ℕ → ℕ → ℕ → Settlement
-sittingWith l free pay = record { hours = both (λ j. 0) (λ j. pick (eqb j l) free 0); pay = λ i j. pick (eqb j l) pay 0 }
+abbrev pub agreedWith : ℕ → ℕ → ℕ → Settlement
+agreedWith l free pay = record { hours = both (λ j. 0) (λ j. pick (eqb j l) free 0); pay = λ i j. pick (eqb j l) pay 0 }
 
-pub record Sittings : Type 0 where
-  pub a1 : Sound ticketA (sitting 1 0 0)
-  pub a2 : Idle ticketA (sitting 0 0 0) Tariff 0 0
-  pub a3 : cap ticketA Tariff 0 0 < sitting 2 0 0 .hours Tariff 0 0
-  pub a4 : ¬ Feasible ticketA (sitting 1 0 5)
-  pub b1 : Sound ticketB (sittingWith 0 1 3)
-  pub b2 : Blocks ticketB (sittingWith 0 1 4) Free 0 1
-  pub b3 : Blocks ticketB (sittingWith 1 1 0) Free 0 0
-  pub c1 : Blocks ticketC (sitting 1 0 0) Free 0 0
-  pub c2 : Sound ticketC (sitting 0 1 12)
-  pub d1 : Sound ticketD (sitting 0 1 5)
+pub record Examples : Type 0 where
+  pub a1 : Sound ticketA (agreed 1 0 0)
+  pub a2 : Idle ticketA (agreed 0 0 0) Tariff 0 0
+  pub a3 : cap ticketA Tariff 0 0 < agreed 2 0 0 .hours Tariff 0 0
+  pub a4 : ¬ Feasible ticketA (agreed 1 0 5)
+  pub b1 : Sound ticketB (agreedWith 0 1 3)
+  pub b2 : Blocks ticketB (agreedWith 0 1 4) Free 0 1
+  pub b3 : Blocks ticketB (agreedWith 1 1 0) Free 0 0
+  pub c1 : Blocks ticketC (agreed 1 0 0) Free 0 0
+  pub c2 : Sound ticketC (agreed 0 1 12)
+  pub d1 : Sound ticketD (agreed 0 1 5)
