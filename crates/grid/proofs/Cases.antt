@@ -10,6 +10,10 @@ lt-or-le a zero = inr zero-le
 lt-or-le zero (suc b) = inl (suc-le-suc zero-le)
 lt-or-le (suc a) (suc b) = ⊎-elim (λ p. inl (suc-le-suc p)) (λ q. inr (suc-le-suc q)) (lt-or-le a b)
 
+-- two constructors that were equal would make 0 and 1 equal
+pub never : {A : Type 0} → _≡_ {A = ℕ} 0 1 → A
+never e = absurd (omega arith)
+
 pub eq-or-ne : (a b : ℕ) → (a ≡ b) ⊎ (a ≡ b → ⊥)
 eq-or-ne a b =
     ⊎-elim (λ p. inr (λ e. omega arith)) (λ q. ⊎-elim (λ e. inl (omega arith)) (λ p. inr (λ e. omega arith)) (eq-or-lt-of-le q))

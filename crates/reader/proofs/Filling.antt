@@ -1,0 +1,134 @@
+-- The numbers of an accepted document written into a lent list, one at each turn, and the whole answer put together.
+use mathlib.Core.Path.{_≡_, refl, sym, ap, _∙_}
+use mathlib.Core.List.{List, [], _∷_}
+use Prim.Native.Nat.{ℕ, zero, suc, _+_, _-_, _≤_, _<_}
+use native.Mathlib.Numerals.{add-one}
+use native.Mathlib.Omega.{arith}
+use borrow.Author.Tests.{le-leb, lt-leb}
+use lib.Dec.{lit<}
+use lib.ListN.{length, getD, set, drop, length-set, drop-of-length-le}
+use lib.Seq.{sets, drop-cons}
+use Rattle.reader.specs.declared.refusals.Document.{Document}
+use Rattle.reader.specs.declared.layout.State.{State}
+use Rattle.reader.specs.declared.groups.Got.{Got}
+use Rattle.reader.specs.declared.Reply.{Reply}
+use Rattle.reader.specs.Refusals.{noRoom}
+use Rattle.reader.specs.Groups.{Read, Number, Ends, TooLong, Padded, bytes}
+use Rattle.reader.specs.Walk.{Outcome, Refusal, Numbers, form}
+use Rattle.reader.specs.State.{start}
+use Rattle.reader.specs.Layout.{afterIn, formOf}
+use Rattle.reader.specs.Answer.{counted, reply, kept}
+use Rattle.reader.specs.Steps.{placed, Gives, firstNumbers, Fillable}
+use Rattle.grid.proofs.Cases.{never}
+use Rattle.reader.proofs.Ends.{EndOf, end-trans, end-place}
+use Rattle.reader.proofs.WalkLaws.{Good, form-accepts}
+use Rattle.reader.proofs.LayoutLaws.{number-small}
+use Rattle.reader.proofs.Running.{bytes-ending}
+
+-- The numbers of an outcome.
+abbrev pub listed : Outcome → List ℕ
+listed (Refusal w) = []
+listed (Numbers xs) = xs
+
+counted-done : (o : Outcome) (k : ℕ) → Reply.Done k ≡ counted o → (o ≡ Numbers (listed o)) × (k ≡ length (listed o))
+counted-done (Refusal w) k e = never cc
+counted-done (Numbers xs) k e = (refl, cc)
+
+good-words : (p : Document) (s : State) (xs : List ℕ) → Good (formOf p) s xs → (i : ℕ) → getD xs i 0 < 65536
+good-words p s [] g i = lit< tt
+good-words p s (x ∷ xs) g zero = omega (arith, number-small p s x (g .0))
+good-words p s (x ∷ xs) g (suc i) = good-words p (afterIn p s x) xs (g .1) i
+
+-- The first numbers of bytes are those that the bytes give.
+first-given : (s xs b : List ℕ) → Gives bytes s xs b → firstNumbers (length xs) s ≡ xs
+unfolding firstNumbers
+first-given s [] b g = refl
+first-given s (x ∷ xs) b g = rw (g .1) (ap (λ (l : List ℕ). x ∷ l) (first-given (g .0) xs b (g .2)))
+
+-- Bytes that were scanned can be filled in.
+pub scanned-fills : (p : Document) (s : List ℕ) (k : ℕ) → Reply.Done k ≡ counted (form (formOf p) bytes s) →
+    Fillable s k × (firstNumbers k s ≡ listed (form (formOf p) bytes s))
+scanned-fills p s k e =
+    let xs = listed (form (formOf p) bytes s) in
+    let d = counted-done (form (formOf p) bytes s) k e in
+    let a = form-accepts (formOf p) bytes s xs (d .0) in
+    let f : firstNumbers k s ≡ xs = rw (d .1) (first-given s xs [] (a .1)) in
+    (record { long = ap length f ∙ sym (d .1); gives = rw f (a .1); words = rw f (good-words p start xs (a .0 .good)) }, f)
+
+-- After k numbers: those that are left come from here, and written from place k on they make the whole.
+pub record Filling (s lent list xs : List ℕ) (here k : ℕ) : Type 0 where
+  pub turns : k ≤ length xs
+  pub within : here ≤ length s
+  pub gives : Gives bytes (drop here s) (drop k xs) []
+  pub words : (i : ℕ) → getD xs i 0 < 65536
+  pub long : length list ≡ length lent
+  pub same : sets list k (drop k xs) ≡ sets lent 0 xs
+
+pub filling-starts : (s lent : List ℕ) (k : ℕ) → Fillable s k → Filling s lent lent (firstNumbers k s) 0 0
+filling-starts s lent k f =
+    record { turns = omega arith; within = omega arith; gives = f .gives; words = f .words; long = refl; same = refl }
+
+-- What a place that was answered says of the bytes there.
+placed-number : (n : ℕ) (r : Read) (x p : ℕ) → Got.Number x p ≡ placed n r → (rest : List ℕ) × (r ≡ Number x rest) × (p ≡ n - length rest)
+placed-number n (Number y rest) x p e = (rest, cc, cc)
+placed-number n Ends x p e = never cc
+placed-number n TooLong x p e = never cc
+placed-number n Padded x p e = never cc
+
+at-number : (s : List ℕ) (at x p : ℕ) → at ≤ length s → Got.Number x p ≡ placed (length s) (bytes (drop at s)) →
+    (bytes (drop at s) ≡ Number x (drop p s)) × (p ≤ length s)
+at-number s at x p h e =
+    let t = placed-number (length s) (bytes (drop at s)) x p e in
+    let a : EndOf (drop at s) s = record { at = at; within = h; same = refl } in
+    let d = end-place (t .0) s (end-trans (t .0) (drop at s) s (bytes-ending (drop at s) x (t .0) (t .1)) a) in
+    (t .1 ∙ ap (Number x) (sym d ∙ ap (λ (k : ℕ). drop k s) (sym (t .2))), omega (arith, t .2))
+
+module _ {s lent list xs : List ℕ} {here k : ℕ} (r : Filling s lent list xs here k) where
+  pub filling-ends : length xs ≤ k → list ≡ sets lent 0 xs
+  filling-ends h = rw (drop-of-length-le xs h) at (r .same)
+
+  gives-next : k < length xs → Gives bytes (drop here s) (getD xs k 0 ∷ drop (suc k) xs) []
+  gives-next h = rw (drop-cons xs k 0 h) at (r .gives)
+
+  -- a number is there
+  pub filling-finds : k < length xs → (p : ℕ) × (Got.Number (getD xs k 0) p ≡ placed (length s) (bytes (drop here s)))
+  filling-finds h = let g = gives-next h in (length s - length (g .0), rw (g .1))
+
+  module _ (v p : ℕ) (h : k < length xs) (e : Got.Number v p ≡ placed (length s) (bytes (drop here s))) where
+    is-next : (v ≡ getD xs k 0) × (drop p s ≡ gives-next h .0)
+    is-next = let a = at-number s here v p (r .within) e .0 in let b = gives-next h .1 in (cc, cc)
+
+    pub filling-word : v < 65536
+    filling-word = omega (arith, r .words k, is-next .0)
+
+    pub filling-turns : Filling s lent (set list k v) xs p (k + 1)
+    filling-turns = record {
+      turns = omega arith;
+      within = at-number s here v p (r .within) e .1;
+      gives = rw (add-one k, is-next .1) (gives-next h .2);
+      words = r .words;
+      long = length-set list k v ∙ r .long;
+      same = rw (add-one k, is-next .0) (rw (drop-cons xs k 0 h) at (r .same));
+    }
+
+-- The whole answer from that of the scan.
+pub reply-refused : (o : Outcome) (lent : List ℕ) (w : ℕ) → Reply.Refused w ≡ counted o →
+    (Reply.Refused w ≡ reply (length lent) o) × (lent ≡ kept lent o)
+reply-refused (Refusal v) lent w e = (e, refl)
+reply-refused (Numbers xs) lent w e = never cc
+
+pub reply-short : (o : Outcome) (lent : List ℕ) (k : ℕ) → Reply.Done k ≡ counted o → length lent < k →
+    (Reply.Refused noRoom ≡ reply (length lent) o) × (lent ≡ kept lent o)
+reply-short (Refusal v) lent k e h = never cc
+reply-short (Numbers xs) lent k e h = let n : k ≡ length xs = cc in let l = lt-leb (length xs) (length lent) (omega arith) in (rw l, rw l)
+
+pub reply-done : (o : Outcome) (lent list : List ℕ) (k : ℕ) → Reply.Done k ≡ counted o → k ≤ length lent → list ≡ sets lent 0 (listed o) →
+    (Reply.Done k ≡ reply (length lent) o) × (list ≡ kept lent o)
+reply-done (Refusal v) lent list k e h f = never cc
+reply-done (Numbers xs) lent list k e h f =
+    let n : k ≡ length xs = cc in let l = le-leb (length xs) (length lent) (omega arith) in (rw l e, rw l f)
+
+pub reply-filled : (p : Document) (s lent list : List ℕ) (k : ℕ) → Reply.Done k ≡ counted (form (formOf p) bytes s) → k ≤ length lent →
+    list ≡ sets lent 0 (firstNumbers k s) →
+    (Reply.Done k ≡ reply (length lent) (form (formOf p) bytes s)) × (list ≡ kept lent (form (formOf p) bytes s))
+reply-filled p s lent list k e h f = reply-done (form (formOf p) bytes s) lent list k e h (f ∙ ap (sets lent 0) (scanned-fills p s k e .1))

@@ -1,0 +1,15 @@
+-- The laws of `reader`, each file over those above it. Other crates cite `Facts`.
+pub mod Ends
+pub mod GroupLaws
+pub mod WalkLaws
+pub mod Undoing
+pub mod Reading
+pub mod Writing
+pub mod TicketLaws
+pub mod SettlementLaws
+pub mod LayoutLaws
+pub mod Running
+pub mod Filling
+pub mod Packing
+pub mod Facts
+pub mod Examples

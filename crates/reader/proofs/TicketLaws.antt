@@ -1,0 +1,328 @@
+-- What is known of an accepted ticket: how many numbers it has, how large they are, and how many bytes they take.
+use mathlib.Core.Path.{_≡_, refl, ap, _∙_}
+use mathlib.Core.Bool.{Bool, true, false, cond}
+use mathlib.Core.List.{List, [], _∷_}
+use Prim.Native.Nat.{ℕ, zero, suc, _+_, _-_, _*_, _%_, _^_, _≤_, _<_}
+use native.Mathlib.Nat.{mul-le-mul, pow-le-pow-right, zero-add, add-zero, suc-add}
+use native.Mathlib.Omega.{arith}
+use borrow.Author.Tests.{lt-ltb, le-ltb, leb-true, eqb-true}
+use lib.Dec.{leb, ltb, eqb, lit<, lit≤}
+use lib.ListN.{length, getD, take, drop}
+use lib.Seq.{drop-cons, length-take-le}
+use Rattle.reader.specs.declared.ticket.Field.{Field}
+use Rattle.reader.specs.declared.ticket.Field.the-variants.{Kind, Growers, Pilots, Hours, TariffCap, TariffGain, TariffPay, FreeCap}
+use Rattle.reader.specs.declared.ticket.Field.the-variants.{FreeGain}
+use Rattle.reader.specs.declared.layout.State.{State}
+use Rattle.reader.specs.Refusals.{ticketRefusals, aboveLimit, amountWithoutCap}
+use Rattle.reader.specs.Groups.{encode, groups, pack}
+use Rattle.reader.specs.Walk.{final}
+use Rattle.reader.specs.State.{must, first, start}
+use Rattle.reader.specs.Ticket.{dealField, placeField, fieldOf, partyFault, capFault, amountFault, faultOf, afterOf, ticketFault}
+use Rattle.reader.specs.Layout.{ticket}
+use Rattle.grid.proofs.Cases.{never}
+use Rattle.reader.proofs.GroupLaws.{encode-short, pack-length}
+use Rattle.reader.proofs.WalkLaws.{Good, Accepted, good-at, good-drop}
+
+-- The field of a place after the first three.
+three : (p : ℕ) → suc (suc (suc p)) - 3 ≡ p
+three p = omega arith
+
+pub gain-last : (k : ℕ) → 4 ≤ k → FreeGain ≡ dealField k
+gain-last zero h = absurd (omega arith)
+gain-last (suc zero) h = absurd (omega arith)
+gain-last (suc (suc zero)) h = absurd (omega arith)
+gain-last (suc (suc (suc zero))) h = absurd (omega arith)
+gain-last (suc (suc (suc (suc k)))) h = refl
+
+pub place-after : (n m p : ℕ) → 3 ≤ p → placeField n m p ≡ cond (ltb (p - 3) (n + m)) Hours (dealField ((p - 3 - (n + m)) % 5))
+place-after n m zero h = absurd (omega arith)
+place-after n m (suc zero) h = absurd (omega arith)
+place-after n m (suc (suc zero)) h = absurd (omega arith)
+place-after n m (suc (suc (suc p))) h = rw (three p)
+
+-- A test that must hold and whose refusal is not met holds.
+pub must-holds : (t : Bool) (w : ℕ) → must t (suc w) ≡ 0 → t ≡ true
+must-holds true w e = refl
+must-holds false w e = never cc
+
+party-range : (x : ℕ) → partyFault (ticketRefusals .parties) x ≡ 0 → (1 ≤ x) × (x ≤ 16)
+party-range x e = go (leb 1 x) refl e
+  where
+    go : (t : Bool) → leb 1 x ≡ t → cond t (must (leb x 16) (ticketRefusals .parties)) (ticketRefusals .parties) ≡ 0 → (1 ≤ x) × (x ≤ 16)
+    go true l e = (leb-true 1 x l, leb-true x 16 (must-holds (leb x 16) 4 e))
+    go false l e = never cc
+
+amount-range : (cap x : ℕ) → amountFault cap x ≡ 0 → x ≤ 500
+amount-range cap x e = go (leb x 500) refl e
+  where
+    go : (t : Bool) → leb x 500 ≡ t → first (must t aboveLimit) (capFault cap x) ≡ 0 → x ≤ 500
+    go true l e = leb-true x 500 l
+    go false l e = never cc
+
+-- The largest number of a field, and the groups that it takes.
+abbrev pub mostOf : Field → ℕ
+mostOf Kind = 1
+mostOf Growers = 16
+mostOf Pilots = 16
+mostOf Hours = 60
+mostOf TariffCap = 60
+mostOf TariffGain = 500
+mostOf TariffPay = 500
+mostOf FreeCap = 60
+mostOf FreeGain = 500
+
+abbrev pub groupsOf : Field → ℕ
+groupsOf f = cond (ltb (mostOf f) 128) 1 2
+
+pub field-range : (f : Field) (s : State) (x : ℕ) → faultOf f s x ≡ 0 → x ≤ mostOf f
+field-range Kind s x e = omega (arith, eqb-true x 1 (must-holds (eqb x 1) 3 e))
+field-range Growers s x e = party-range x e .1
+field-range Pilots s x e = party-range x e .1
+field-range Hours s x e = leb-true x 60 (must-holds (leb x 60) 5 e)
+field-range TariffCap s x e = leb-true x 60 (must-holds (leb x 60) 6 e)
+field-range TariffGain s x e = amount-range (s .cap) x e
+field-range TariffPay s x e = amount-range (s .cap) x e
+field-range FreeCap s x e = leb-true x 60 (must-holds (leb x 60) 6 e)
+field-range FreeGain s x e = amount-range (s .cap) x e
+
+-- It fits its groups, and they are few enough for a file.
+field-fits : (f : Field) → (mostOf f < 128 ^ groupsOf f) × (groupsOf f ≤ groups) × (0 < groupsOf f)
+field-fits Kind = (lit< tt, lit≤ tt, lit< tt)
+field-fits Growers = (lit< tt, lit≤ tt, lit< tt)
+field-fits Pilots = (lit< tt, lit≤ tt, lit< tt)
+field-fits Hours = (lit< tt, lit≤ tt, lit< tt)
+field-fits TariffCap = (lit< tt, lit≤ tt, lit< tt)
+field-fits TariffGain = (lit< tt, lit≤ tt, lit< tt)
+field-fits TariffPay = (lit< tt, lit≤ tt, lit< tt)
+field-fits FreeCap = (lit< tt, lit≤ tt, lit< tt)
+field-fits FreeGain = (lit< tt, lit≤ tt, lit< tt)
+
+pub ticket-small : (s : State) (x : ℕ) → ticketFault s x ≡ 0 → x < 128 ^ groups
+ticket-small s x e =
+    let f = field-fits (fieldOf s) in
+    omega (arith, field-range (fieldOf s) s x e, f .0, pow-le-pow-right {n = 128} (omega arith) (f .1))
+
+-- The bytes of one number.
+number-size : (s : State) (x : ℕ) → ticket .fault s x ≡ 0 → length (encode x) ≤ groupsOf (fieldOf s)
+number-size s x e =
+    let f = field-fits (fieldOf s) in
+    encode-short (groupsOf (fieldOf s)) x (f .2) (omega (arith, field-range (fieldOf s) s x e, f .0))
+
+-- The most bytes of k numbers from a place on: a run of hours takes one each, and the five numbers of a pair take eight.
+abbrev pub room : ℕ → ℕ → ℕ → ℕ → ℕ
+room n m p zero = 0
+room n m p (suc k) = groupsOf (placeField n m p) + room n m (p + 1) k
+
+room-append : (n m p j k : ℕ) → room n m p (j + k) ≡ room n m p j + room n m (p + j) k
+room-append n m p zero k = rw (zero-add k, add-zero p, zero-add (room n m p k))
+room-append n m p (suc j) k =
+    let e : p + suc j ≡ p + 1 + j = omega arith in rw (suc-add j k, e) (omega (arith, room-append n m (p + 1) j k))
+
+room-hours : (n m p j : ℕ) → 3 ≤ p → p + j ≤ 3 + n + m → room n m p j ≡ j
+room-hours n m p zero h l = refl
+room-hours n m p (suc j) h l =
+    rw (place-after n m p h, lt-ltb (p - 3) (n + m) (omega arith)) (omega (arith, room-hours n m (p + 1) j (omega arith) (omega arith)))
+
+-- the number i of a pair whose first number stands at 3 + n + m + 5 * q
+deal-place : (n m q i p : ℕ) → i < 5 → p ≡ 3 + n + m + 5 * q + i → placeField n m p ≡ dealField i
+deal-place n m q i p h e =
+    let r : (p - 3 - (n + m)) % 5 ≡ i = omega arith in rw (place-after n m p (omega arith), le-ltb (p - 3) (n + m) (omega arith), r)
+
+room-pairs : (n m k q p : ℕ) → p ≡ 3 + n + m + 5 * q → room n m p (5 * k) ≡ 8 * k
+room-pairs n m zero q p e = refl
+room-pairs n m (suc k) q p e =
+    let f : 5 * suc k ≡ suc (suc (suc (suc (suc (5 * k))))) = omega arith in
+    rw (
+      f,
+      deal-place n m q 0 p (lit< tt) (omega arith),
+      deal-place n m q 1 (p + 1) (lit< tt) (omega arith),
+      deal-place n m q 2 (p + 1 + 1) (lit< tt) (omega arith),
+      deal-place n m q 3 (p + 1 + 1 + 1) (lit< tt) (omega arith),
+      deal-place n m q 4 (p + 1 + 1 + 1 + 1) (lit< tt) (omega arith),
+    )
+    (omega (arith, room-pairs n m k (suc q) (p + 1 + 1 + 1 + 1 + 1) (omega arith)))
+
+room-body : (n m k : ℕ) → room n m 3 (n + m + 5 * k) ≡ n + m + 8 * k
+room-body n m k =
+    omega (
+      arith,
+      room-append n m 3 (n + m) (5 * k),
+      room-hours n m 3 (n + m) (omega arith) (omega arith),
+      room-pairs n m k 0 (3 + (n + m)) (omega arith),
+    )
+
+-- After the third number a step changes neither n nor m.
+pub record Steady (s t : State) : Type 0 where
+  pub growers : t .growers ≡ s .growers
+  pub pilots : t .pilots ≡ s .pilots
+  pub place : t .place ≡ s .place + 1
+
+deal-steady : (k : ℕ) (s : State) (x : ℕ) → Steady s (afterOf (dealField k) s x)
+deal-steady zero s x = record { growers = refl; pilots = refl; place = refl }
+deal-steady (suc zero) s x = record { growers = refl; pilots = refl; place = refl }
+deal-steady (suc (suc zero)) s x = record { growers = refl; pilots = refl; place = refl }
+deal-steady (suc (suc (suc zero))) s x = record { growers = refl; pilots = refl; place = refl }
+deal-steady (suc (suc (suc (suc k)))) s x = record { growers = refl; pilots = refl; place = refl }
+
+after-steady : (s : State) (x : ℕ) → 3 ≤ s .place → Steady s (ticket .after s x)
+after-steady s x h =
+    rw (place-after (s .growers) (s .pilots) (s .place) h)
+    (go (ltb (s .place - 3) (s .growers + s .pilots)) ((s .place - 3 - (s .growers + s .pilots)) % 5))
+  where
+    go : (t : Bool) (k : ℕ) → Steady s (afterOf (cond t Hours (dealField k)) s x)
+    go true k = record { growers = refl; pilots = refl; place = refl }
+    go false k = deal-steady k s x
+
+body-size : (s : State) (xs : List ℕ) → 3 ≤ s .place → Good ticket s xs →
+    length (pack xs) ≤ room (s .growers) (s .pilots) (s .place) (length xs)
+body-size s [] h g = omega arith
+body-size s (x ∷ xs) h g =
+    let k = after-steady s x h in
+    let r = rw (k .growers, k .pilots, k .place) at (body-size (ticket .after s x) xs (omega (arith, k .place)) (g .1)) in
+    omega (arith, pack-length x xs, number-size s x (g .0), r)
+
+-- An accepted ticket: its n and m, its numbers, its bytes.
+pub record Shape (xs : List ℕ) (n m : ℕ) : Type 0 where
+  pub kind : getD xs 0 0 ≡ 1
+  pub growers : (1 ≤ n) × (n ≤ 16)
+  pub pilots : (1 ≤ m) × (m ≤ 16)
+  pub count : length xs ≡ 3 + n + m + 5 * (n * m)
+  pub few : length xs ≤ 1315
+  pub short : length (pack xs) ≤ 2083
+
+pub shape : (xs : List ℕ) → Accepted ticket xs → Shape xs (getD xs 1 0) (getD xs 2 0)
+shape [] a = absurd (omega (arith, a .count))
+shape (k ∷ []) a = absurd (omega (arith, a .count))
+shape (k ∷ n ∷ []) a = absurd (omega (arith, a .count))
+shape (k ∷ n ∷ m ∷ xs) a =
+    let g = a .good in
+    let hn = party-range n (g .1 .0) in
+    let hm = party-range m (g .1 .1 .0) in
+    let q : n * m ≤ 16 * 16 = mul-le-mul (hn .1) (hm .1) in
+    let l : length xs ≡ n + m + 5 * (n * m) = omega (arith, a .count) in
+    let s₁ = ticket .after (ticket .start) k in
+    let s₂ = ticket .after s₁ n in
+    record {
+      kind = eqb-true k 1 (must-holds (eqb k 1) 3 (g .0));
+      growers = hn;
+      pilots = hm;
+      count = omega (arith, a .count);
+      few = omega (arith, a .count);
+      short =
+          omega (
+            arith,
+            pack-length k (n ∷ m ∷ xs),
+            pack-length n (m ∷ xs),
+            pack-length m xs,
+            number-size (ticket .start) k (g .0),
+            number-size s₁ n (g .1 .0),
+            number-size s₂ m (g .1 .1 .0),
+            body-size (ticket .after s₂ m) xs (omega arith) (g .1 .1 .1),
+            ap (room n m 3) l,
+            room-body n m (n * m),
+          );
+    }
+
+-- Where a walk stands after the first three numbers.
+pub record Stands (s : State) (n m p : ℕ) : Type 0 where
+  pub growers : s .growers ≡ n
+  pub pilots : s .pilots ≡ m
+  pub place : s .place ≡ p
+
+stands-on : (s : State) (xs : List ℕ) (n m p : ℕ) → 3 ≤ p → Stands s n m p → Stands (final ticket s xs) n m (p + length xs)
+stands-on s [] n m p h t = record { growers = t .growers; pilots = t .pilots; place = omega (arith, t .place) }
+stands-on s (x ∷ xs) n m p h t =
+    let k = after-steady s x (omega (arith, t .place)) in
+    let e : p + suc (length xs) ≡ suc p + length xs = omega arith in
+    rw e
+    (stands-on (ticket .after s x) xs n m (suc p) (omega arith)
+    (record { growers = k .growers ∙ t .growers; pilots = k .pilots ∙ t .pilots; place = omega (arith, k .place, t .place) }))
+
+stands : (k n m : ℕ) (xs : List ℕ) (q : ℕ) → q ≤ length xs →
+    Stands (final ticket start (take (suc (suc (suc q))) (k ∷ n ∷ m ∷ xs))) n m (3 + q)
+stands k n m xs q h =
+    let e : 3 + length (take q xs) ≡ 3 + q = omega (arith, length-take-le q xs h) in
+    rw (← e)
+    (stands-on (ticket .after (ticket .after (ticket .after start k) n) m) (take q xs) n m 3 (omega arith)
+    (record { growers = refl; pilots = refl; place = refl }))
+
+-- Hours are at most 60.
+pub ticket-hours : (k n m : ℕ) (xs : List ℕ) → Good ticket start (k ∷ n ∷ m ∷ xs) → (q : ℕ) → q < n + m → q < length xs → getD xs q 0 ≤ 60
+ticket-hours k n m xs g q h l =
+    let s = final ticket start (take (suc (suc (suc q))) (k ∷ n ∷ m ∷ xs)) in
+    let t = stands k n m xs q (omega arith) in
+    let e = good-at ticket start (k ∷ n ∷ m ∷ xs) (suc (suc (suc q))) (omega arith) g in
+    let f : fieldOf s ≡ Hours =
+    rw (t .growers, t .pilots, t .place) (place-after n m (3 + q) (omega arith) ∙ rw (lt-ltb (3 + q - 3) (n + m) (omega arith))) in
+    rw f at (field-range (fieldOf s) s (getD xs q 0) e)
+
+-- The five numbers of a pair: caps at most 60, amounts at most 500, and none where the cap is 0.
+pub record Deal (tariffCap tariffGain tariffPay freeCap freeGain : ℕ) : Type 0 where
+  pub tariffCapped : tariffCap ≤ 60
+  pub gainCapped : tariffGain ≤ 500
+  pub payCapped : tariffPay ≤ 500
+  pub freeCapped : freeCap ≤ 60
+  pub freeGainCapped : freeGain ≤ 500
+  pub noTariff : tariffCap ≡ 0 → (tariffGain ≡ 0) × (tariffPay ≡ 0)
+  pub noFree : freeCap ≡ 0 → freeGain ≡ 0
+
+amount-none : (cap x : ℕ) → amountFault cap x ≡ 0 → cap ≡ 0 → x ≡ 0
+amount-none cap x e z = go (leb x 500) (rw z at e)
+  where
+    go : (t : Bool) → first (must t aboveLimit) (must (eqb x 0) amountWithoutCap) ≡ 0 → x ≡ 0
+    go true e = eqb-true x 0 (must-holds (eqb x 0) 7 e)
+    go false e = never cc
+
+deal-good : (s : State) (q a b c d e : ℕ) (xs : List ℕ) → s .place ≡ 3 + s .growers + s .pilots + 5 * q →
+    Good ticket s (a ∷ b ∷ c ∷ d ∷ e ∷ xs) → Deal a b c d e
+deal-good s q a b c d e xs h g =
+    let p = s .place in
+    let n = s .growers in
+    let m = s .pilots in
+    let r =
+    rw (
+      deal-place n m q 0 p (lit< tt) (omega arith),
+      deal-place n m q 1 (p + 1) (lit< tt) (omega arith),
+      deal-place n m q 2 (p + 1 + 1) (lit< tt) (omega arith),
+      deal-place n m q 3 (p + 1 + 1 + 1) (lit< tt) (omega arith),
+      deal-place n m q 4 (p + 1 + 1 + 1 + 1) (lit< tt) (omega arith),
+    ) at g in
+    record {
+      tariffCapped = leb-true a 60 (must-holds (leb a 60) 6 (r .0));
+      gainCapped = amount-range a b (r .1 .0);
+      payCapped = amount-range a c (r .1 .1 .0);
+      freeCapped = leb-true d 60 (must-holds (leb d 60) 6 (r .1 .1 .1 .0));
+      freeGainCapped = amount-range d e (r .1 .1 .1 .1 .0);
+      noTariff = λ z. (amount-none a b (r .1 .0) z, amount-none a c (r .1 .1 .0) z);
+      noFree = λ z. amount-none d e (r .1 .1 .1 .1 .0) z;
+    }
+
+five : (xs : List ℕ) (p : ℕ) → p + 4 < length xs →
+    drop p xs ≡ getD xs p 0 ∷ getD xs (p + 1) 0 ∷ getD xs (p + 2) 0 ∷ getD xs (p + 3) 0 ∷ getD xs (p + 4) 0 ∷ drop (p + 5) xs
+five xs p h =
+    let e₁ : p + 1 ≡ suc p = omega arith in
+    let e₂ : p + 2 ≡ suc (suc p) = omega arith in
+    let e₃ : p + 3 ≡ suc (suc (suc p)) = omega arith in
+    let e₄ : p + 4 ≡ suc (suc (suc (suc p))) = omega arith in
+    let e₅ : p + 5 ≡ suc (suc (suc (suc (suc p)))) = omega arith in
+    rw (
+      e₁,
+      e₂,
+      e₃,
+      e₄,
+      e₅,
+      drop-cons xs p 0 (omega arith),
+      drop-cons xs (suc p) 0 (omega arith),
+      drop-cons xs (suc (suc p)) 0 (omega arith),
+      drop-cons xs (suc (suc (suc p))) 0 (omega arith),
+      drop-cons xs (suc (suc (suc (suc p)))) 0 (omega arith),
+    )
+
+-- The pair q of an accepted ticket.
+pub ticket-deal : (k n m : ℕ) (xs : List ℕ) → Good ticket start (k ∷ n ∷ m ∷ xs) → (q r : ℕ) → r ≡ n + m + 5 * q → r + 4 < length xs →
+    Deal (getD xs r 0) (getD xs (r + 1) 0) (getD xs (r + 2) 0) (getD xs (r + 3) 0) (getD xs (r + 4) 0)
+ticket-deal k n m xs g q r e l =
+    let s = final ticket start (take (suc (suc (suc r))) (k ∷ n ∷ m ∷ xs)) in
+    let t = stands k n m xs r (omega arith) in
+    let w = good-drop ticket start (suc (suc (suc r))) (k ∷ n ∷ m ∷ xs) g in
+    deal-good s q _ _ _ _ _ (drop (r + 5) xs) (rw (t .growers, t .pilots, t .place) (omega arith)) (rw (five xs r l) at w)

@@ -1,0 +1,14 @@
+-- `reader::layout::first` meets its contract: each way out is a clause of `first`. Assumes nothing.
+use native.Mathlib.Omega.{arith}
+use Rattle.reader.proofs.LayoutLaws.{first-some}
+use Rattle.reader.proofs.layout.first.Statement.{statement}
+use Rattle.reader.proofs.layout.first.Tie as tie
+
+returns : tie.Need-returns
+returns c = rw (c .if1 .taken)
+
+returns-2 : tie.Need-returns-2
+returns-2 c = first-some (c .before .args .a) (c .before .args .b) (omega arith)
+
+pub first-spec : {M : Type 1} → statement M
+first-spec = tie.close (tie.spec returns returns-2)

@@ -1,0 +1,10 @@
+-- The definitions that the contracts of `reader` cite, each file over those above it. The laws about them stand in proofs/.
+pub mod Refusals
+pub mod Groups
+pub mod Walk
+pub mod State
+pub mod Ticket
+pub mod Settlement
+pub mod Layout
+pub mod Answer
+pub mod Steps

@@ -1,0 +1,94 @@
+-- What the private functions answer: a number at a place of a slice, and a run over some numbers of a document.
+use mathlib.Core.Path.{_≡_}
+use mathlib.Core.Bool.{true, false, cond}
+use mathlib.Core.List.{List, [], _∷_}
+use Prim.Native.Nat.{ℕ, zero, suc, _+_, _-_, _^_, _≤_, _<_}
+use lib.Dec.{ltb}
+use lib.ListN.{length, getD, drop}
+use Rattle.reader.specs.declared.refusals.Document.{Document}
+use Rattle.reader.specs.declared.groups.Got.{Got}
+use Rattle.reader.specs.declared.layout.State.{State}
+use Rattle.reader.specs.declared.scan.Run.{Run}
+use Rattle.reader.specs.declared.Reply.{Reply}
+use Rattle.reader.specs.Refusals.{refusalsOf}
+use Rattle.reader.specs.Groups.{Read, Number, Ends, TooLong, Padded, groups, bytes}
+use Rattle.reader.specs.Walk.{Source}
+use Rattle.reader.specs.State.{start}
+use Rattle.reader.specs.Layout.{faultIn, afterIn}
+
+-- What was read of the end of n bytes, with the place after the number.
+abbrev pub placed : ℕ → Read → Got
+placed n (Number x rest) = Got.Number x (n - length rest)
+placed n Ends = Got.Ends
+placed n TooLong = Got.TooLong
+placed n Padded = Got.Padded
+
+-- More places than any document has, so that the count of places cannot wrap.
+abbrev pub mostPlaces : ℕ
+mostPlaces = 2147483648
+
+-- What a state is known to be where no fault was met: its numbers were read, so they have few groups.
+pub record Known (s : State) : Type 0 where
+  pub growers : s .growers < 128 ^ groups
+  pub pilots : s .pilots < 128 ^ groups
+
+-- A refused run, and one that stands at a place.
+abbrev pub refusing : ℕ → Run
+refusing w = record { refused = true; why = w; next = 0; state = start }
+
+abbrev pub taking : State → ℕ → Run
+taking s p = record { refused = false; why = 0; next = p; state = s }
+
+abbrev pub begun : Run
+begun = taking start 0
+
+abbrev pub unlessFault : ℕ → Run → Run
+unlessFault zero r = r
+unlessFault (suc w) r = refusing (suc w)
+
+-- The run after what was got at a state's place.
+abbrev pub stepped : Document → State → Got → Run
+stepped p s (Got.Number x next) = unlessFault (faultIn p s x) (taking (afterIn p s x) next)
+stepped p s Got.Ends = refusing (refusalsOf p .ends)
+stepped p s Got.TooLong = refusing (refusalsOf p .long)
+stepped p s Got.Padded = refusing (refusalsOf p .padded)
+
+-- One number more of the source s, unless the run is refused; and k of them.
+abbrev pub nextRun : Document → Source → List ℕ → Run → Run
+nextRun p read s r = cond (r .refused) r (stepped p (r .state) (placed (length s) (read (drop (r .next) s))))
+
+unfoldable pub goneOn : Document → Source → List ℕ → ℕ → Run → Run
+goneOn p read s zero r = r
+goneOn p read s (suc k) r = goneOn p read s k (nextRun p read s r)
+
+-- A run that can go on in a source of n places.
+pub record Ready (n : ℕ) (r : Run) : Type 0 where
+  pub within : r .next ≤ n
+  pub known : Known (r .state)
+
+-- The answer of a run over a whole document, of which `count` numbers follow the first three, in a source of n places.
+abbrev pub closing : Document → ℕ → ℕ → Run → Reply
+closing p n count r =
+    cond (r .refused) (Reply.Refused (r .why)) (cond (ltb (r .next) n) (Reply.Refused (refusalsOf p .left)) (Reply.Done (3 + count)))
+
+-- A source gives the numbers xs, and b is left.
+abbrev pub Gives : Source → List ℕ → List ℕ → List ℕ → Type 0
+Gives read a [] b = a ≡ b
+Gives read a (x ∷ xs) b = (c : List ℕ) × (read a ≡ Number x c) × Gives read c xs b
+
+-- The first k numbers of bytes, as many as can be read.
+abbrev pub numberThen : Read → (List ℕ → List ℕ) → List ℕ
+numberThen (Number x rest) go = x ∷ go rest
+numberThen Ends go = []
+numberThen TooLong go = []
+numberThen Padded go = []
+
+unfoldable pub firstNumbers : ℕ → List ℕ → List ℕ
+firstNumbers zero s = []
+firstNumbers (suc k) s = numberThen (bytes s) (λ rest. firstNumbers k rest)
+
+-- Bytes that are `count` numbers of 16 bits and nothing more.
+pub record Fillable (s : List ℕ) (count : ℕ) : Type 0 where
+  pub long : length (firstNumbers count s) ≡ count
+  pub gives : Gives bytes s (firstNumbers count s) []
+  pub words : (i : ℕ) → getD (firstNumbers count s) i 0 < 65536

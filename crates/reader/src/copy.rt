@@ -1,0 +1,97 @@
+// A document's bytes copied into a list, and a list into bytes: a scan first, then the room, then what can no longer fail.
+ghost use mathlib.Core.Path.{_≡_};
+ghost use Prim.Native.Nat.{_≤_};
+ghost use lib.ListN.{length};
+ghost use lib.Seq.{sets};
+ghost use Rattle.reader.specs.Groups.{bytes, pack};
+ghost use Rattle.reader.specs.Walk.{readHead, form};
+ghost use Rattle.reader.specs.Layout.{formOf};
+ghost use Rattle.reader.specs.Steps.{firstNumbers, Fillable};
+ghost use Rattle.reader.specs.Answer.{packedAs, reply, kept};
+use crate::Reply;
+use crate::groups::Got;
+use crate::groups::number;
+use crate::groups::size;
+use crate::groups::wide16;
+use crate::groups::write;
+use crate::refusals::NO_ROOM;
+use crate::refusals::Document;
+use crate::scan::scan;
+use crate::scan::scan_list;
+
+// Writes the first numbers of bytes that were scanned to the front of a list.
+fn fill(s: &[u8], list: &mut [u16], count: usize)
+    requires { ⌜ Fillable (now s) count ⌝ }
+    requires { ⌜ count ≤ length (now list) ⌝ }
+    ensures { λ _. ⌜ now (list .exit) ≡ sets (now (list .entry)) 0 (firstNumbers count (now (s .entry))) ⌝ }
+{
+    let mut here: usize = 0;
+    for k in 0..count {
+        let got = number(s, here);
+        let Got::Number { value, next } = got else {
+            return;
+        };
+        list[k] = value as u16;
+        here = next;
+    }
+}
+
+// The bytes that a list takes.
+fn size_all(list: &[u16]) -> usize
+    requires { ⌜ length (pack (now list)) ≤ 4294967296 ⌝ }
+    ensures { λ r. ⌜ r ≡ length (pack (now (list .entry))) ⌝ }
+{
+    let mut total: usize = 0;
+    for k in 0..list.len() {
+        total = total + size(wide16(list[k]));
+    }
+    total
+}
+
+// Writes a list's bytes to the front of a buffer.
+fn write_all(list: &[u16], out: &mut [u8])
+    requires { ⌜ length (pack (now list)) ≤ length (now out) ⌝ }
+    ensures { λ _. ⌜ now (out .exit) ≡ sets (now (out .entry)) 0 (pack (now (list .entry))) ⌝ }
+{
+    let mut here: usize = 0;
+    for k in 0..list.len() {
+        here = write(wide16(list[k]), out, here);
+    }
+}
+
+// A document's bytes into a lent list.
+pub(crate) fn receive(document: Document, s: &[u8], list: &mut [u16]) -> Reply
+    ensures { λ r. ⌜ r ≡ reply (length (now (list .entry))) (form (formOf document) bytes (now (s .entry))) ⌝ }
+    ensures { λ r. ⌜ now (list .exit) ≡ kept (now (list .entry)) (form (formOf document) bytes (now (s .entry))) ⌝ }
+{
+    let seen = scan(document, s);
+    match seen {
+        Reply::Refused { why } => Reply::Refused { why },
+        Reply::Done { count } => {
+            if list.len() < count {
+                return Reply::Refused { why: NO_ROOM };
+            }
+            fill(s, list, count);
+            Reply::Done { count }
+        }
+    }
+}
+
+// A document's list into a lent buffer.
+pub(crate) fn deliver(document: Document, list: &[u16], out: &mut [u8]) -> Reply
+    ensures { λ r. ⌜ r ≡ reply (length (now (out .entry))) (packedAs (form (formOf document) readHead (now (list .entry)))) ⌝ }
+    ensures { λ r. ⌜ now (out .exit) ≡ kept (now (out .entry)) (packedAs (form (formOf document) readHead (now (list .entry)))) ⌝ }
+{
+    let seen = scan_list(document, list);
+    match seen {
+        Reply::Refused { why } => Reply::Refused { why },
+        Reply::Done { count: _ } => {
+            let written = size_all(list);
+            if out.len() < written {
+                return Reply::Refused { why: NO_ROOM };
+            }
+            write_all(list, out);
+            Reply::Done { count: written }
+        }
+    }
+}

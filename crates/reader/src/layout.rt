@@ -1,0 +1,107 @@
+// The two documents behind one state: what is wrong with a number at its place, the state after it, and how many numbers follow.
+ghost use mathlib.Core.Path.{_≡_};
+ghost use Prim.Native.Nat.{_+_, _*_, _<_, _≤_};
+ghost use Rattle.reader.specs.State.{start, must, first, moved};
+ghost use Rattle.reader.specs.Layout.{faultIn, afterIn, bodyIn};
+ghost use Rattle.reader.specs.Steps.{Known, mostPlaces};
+use crate::refusals::Document;
+use crate::settlement::settlement_after;
+use crate::settlement::settlement_fault;
+use crate::ticket::ticket_after;
+use crate::ticket::ticket_fault;
+
+// How many numbers a document has before its growers and pilots are known.
+pub(crate) const HEAD: usize = 3;
+
+// How far a document is read: the place, and of what was read the numbers that later checks need.
+pub(crate) struct State {
+    pub(crate) place: usize,
+    pub(crate) growers: usize,
+    pub(crate) pilots: usize,
+    pub(crate) cap: usize,
+}
+
+pub(crate) fn start() -> State
+    ensures { λ r. ⌜ r ≡ start ⌝ }
+{
+    State {
+        place: 0,
+        growers: 0,
+        pilots: 0,
+        cap: 0,
+    }
+}
+
+// No refusal if a test holds.
+pub(crate) fn must(ok: bool, why: u8) -> u8
+    ensures { λ r. ⌜ r ≡ must ok why ⌝ }
+{
+    if ok { 0 } else { why }
+}
+
+// The first of two refusals that is one.
+pub(crate) fn first(a: u8, b: u8) -> u8
+    ensures { λ r. ⌜ r ≡ first a b ⌝ }
+{
+    if a == 0 { b } else { a }
+}
+
+// The next place, with what is known there.
+pub(crate) fn moved(s: State, growers: usize, pilots: usize, cap: usize) -> State
+    requires { ⌜ s .place < mostPlaces ⌝ }
+    ensures { λ r. ⌜ r ≡ moved s growers pilots cap ⌝ }
+{
+    State {
+        place: s.place + 1,
+        growers,
+        pilots,
+        cap,
+    }
+}
+
+// What is wrong with a number at a state's place, as a refusal number; 0 if nothing is.
+pub(crate) fn fault(document: Document, s: State, x: usize) -> u8
+    requires { ⌜ Known s ⌝ }
+    ensures { λ r. ⌜ r ≡ faultIn document s x ⌝ }
+{
+    match document {
+        Document::Ticket => ticket_fault(s, x),
+        Document::Settlement { growers, pilots } => settlement_fault(growers, pilots, s, x),
+    }
+}
+
+pub(crate) fn after(document: Document, s: State, x: usize) -> State
+    requires { ⌜ Known s ⌝ }
+    requires { ⌜ s .place < mostPlaces ⌝ }
+    ensures { λ r. ⌜ r ≡ afterIn document s x ⌝ }
+{
+    match document {
+        Document::Ticket => ticket_after(s, x),
+        Document::Settlement {
+            growers: _,
+            pilots: _,
+        } => settlement_after(s, x),
+    }
+}
+
+fn pairs(s: State) -> usize
+    requires { ⌜ Known s ⌝ }
+    ensures { λ r. ⌜ (r ≡ s .growers * s .pilots) × (r ≤ 268402689) ⌝ }
+{
+    s.growers * s.pilots
+}
+
+// The numbers that follow the first three.
+pub(crate) fn body_of(document: Document, s: State) -> usize
+    requires { ⌜ Known s ⌝ }
+    ensures { λ r. ⌜ (r ≡ bodyIn document s) × (r + 3 ≤ mostPlaces) ⌝ }
+{
+    let pairs = pairs(s);
+    match document {
+        Document::Ticket => s.growers + s.pilots + 5 * pairs,
+        Document::Settlement {
+            growers: _,
+            pilots: _,
+        } => 3 * pairs,
+    }
+}

@@ -1,0 +1,54 @@
+// The refusal numbers, and which document is read. specs/Refusals.antt has the same table.
+ghost use mathlib.Core.Path.{_≡_};
+ghost use Rattle.reader.specs.Refusals.{refusalsOf};
+
+// A ticket, or the settlement of a ticket with so many growers and pilots.
+pub(crate) enum Document {
+    Ticket,
+    Settlement { growers: usize, pilots: usize },
+}
+
+// The refusals that a document has numbers of its own for.
+pub(crate) struct Refusals {
+    pub(crate) ends: u8, // the source ends inside or before a number
+    pub(crate) long: u8, // a number's second byte has its top bit set
+    pub(crate) padded: u8, // its second byte is 00
+    pub(crate) kind: u8, // another kind of document
+    pub(crate) parties: u8, // growers or pilots out of range, or unlike the ticket's
+    pub(crate) left: u8, // something is left after the last number
+}
+
+// The refusals of a ticket's ranges, and of a lent buffer that is too short.
+pub(crate) const HOURS_ABOVE_LIMIT: u8 = 6;
+
+pub(crate) const ABOVE_LIMIT: u8 = 7;
+
+pub(crate) const AMOUNT_WITHOUT_CAP: u8 = 8;
+
+pub(crate) const NO_ROOM: u8 = 10;
+
+pub(crate) fn refusals_of(document: Document) -> Refusals
+    ensures { λ r. ⌜ r ≡ refusalsOf document ⌝ }
+{
+    match document {
+        Document::Ticket => Refusals {
+            ends: 1,
+            long: 2,
+            padded: 3,
+            kind: 4,
+            parties: 5,
+            left: 9,
+        },
+        Document::Settlement {
+            growers: _,
+            pilots: _,
+        } => Refusals {
+            ends: 11,
+            long: 12,
+            padded: 13,
+            kind: 14,
+            parties: 15,
+            left: 16,
+        },
+    }
+}

@@ -1,0 +1,155 @@
+// The walk over a whole document, of bytes or of a list: it finds the first refusal in file order, and writes nothing.
+ghost use mathlib.Core.Path.{_≡_};
+ghost use Prim.Native.Nat.{_+_, _<_, _≤_};
+ghost use lib.ListN.{length};
+ghost use Rattle.reader.specs.Groups.{bytes};
+ghost use Rattle.reader.specs.Walk.{readHead, form};
+ghost use Rattle.reader.specs.Layout.{formOf};
+ghost use Rattle.reader.specs.Steps.{Known, Ready, mostPlaces, refusing, begun, stepped, goneOn, closing};
+ghost use Rattle.reader.specs.Answer.{counted};
+use crate::Reply;
+use crate::groups::Got;
+use crate::groups::entry;
+use crate::groups::number;
+use crate::layout::HEAD;
+use crate::layout::State;
+use crate::layout::after;
+use crate::layout::body_of;
+use crate::layout::fault;
+use crate::layout::start;
+use crate::refusals::Document;
+use crate::refusals::refusals_of;
+
+// What a part of a document comes to: the refusal, or the place and the state after it.
+// A struct and no enum, since a state may come to hold an array.
+pub(crate) struct Run {
+    pub(crate) refused: bool,
+    pub(crate) why: u8,
+    pub(crate) next: usize,
+    pub(crate) state: State,
+}
+
+fn begun() -> Run
+    ensures { λ r. ⌜ r ≡ begun ⌝ }
+{
+    let state = start();
+    Run {
+        refused: false,
+        why: 0,
+        next: 0,
+        state,
+    }
+}
+
+fn refusing(why: u8) -> Run
+    ensures { λ r. ⌜ r ≡ refusing why ⌝ }
+{
+    let state = start();
+    Run {
+        refused: true,
+        why,
+        next: 0,
+        state,
+    }
+}
+
+// What was read at a state's place: refused, or taken.
+fn step(document: Document, s: State, got: Got) -> Run
+    requires { ⌜ Known s ⌝ }
+    requires { ⌜ s .place < mostPlaces ⌝ }
+    ensures { λ r. ⌜ r ≡ stepped document s got ⌝ }
+{
+    let refusals = refusals_of(document);
+    match got {
+        Got::Number { value, next } => {
+            let why = fault(document, s, value);
+            if 0 < why {
+                return refusing(why);
+            }
+            let state = after(document, s, value);
+            Run {
+                refused: false,
+                why: 0,
+                next,
+                state,
+            }
+        }
+        Got::Ends => refusing(refusals.ends),
+        Got::TooLong => refusing(refusals.long),
+        Got::Padded => refusing(refusals.padded),
+    }
+}
+
+// A run goes on for `count` numbers of the bytes, unless it is refused.
+fn walk(document: Document, s: &[u8], count: usize, from: Run) -> Run
+    requires { ⌜ Ready (length (now s)) from ⌝ }
+    requires { ⌜ from .state .place + count ≤ mostPlaces ⌝ }
+    ensures { λ r. ⌜ r ≡ goneOn document bytes (now (s .entry)) count from ⌝ }
+{
+    let mut run = from;
+    for k in 0..count {
+        if run.refused {
+            return run;
+        }
+        let at = run.next;
+        let state = run.state;
+        run = step(document, state, number(s, at));
+    }
+    run
+}
+
+// The same over a list of numbers.
+fn walk_list(document: Document, list: &[u16], count: usize, from: Run) -> Run
+    requires { ⌜ Ready (length (now list)) from ⌝ }
+    requires { ⌜ from .state .place + count ≤ mostPlaces ⌝ }
+    ensures { λ r. ⌜ r ≡ goneOn document readHead (now (list .entry)) count from ⌝ }
+{
+    let mut run = from;
+    for k in 0..count {
+        if run.refused {
+            return run;
+        }
+        let at = run.next;
+        let state = run.state;
+        run = step(document, state, entry(list, at));
+    }
+    run
+}
+
+// The answer of a run over a document with `count` numbers after the first three, in a source of `length` bytes or numbers.
+fn close(document: Document, length: usize, count: usize, run: Run) -> Reply
+    requires { ⌜ count + 3 ≤ mostPlaces ⌝ }
+    ensures { λ r. ⌜ r ≡ closing document length count run ⌝ }
+{
+    if run.refused {
+        return Reply::Refused { why: run.why };
+    }
+    if run.next < length {
+        return Reply::Refused {
+            why: refusals_of(document).left,
+        };
+    }
+    Reply::Done {
+        count: HEAD + count,
+    }
+}
+
+pub(crate) fn scan(document: Document, s: &[u8]) -> Reply
+    ensures { λ r. ⌜ r ≡ counted (form (formOf document) bytes (now (s .entry))) ⌝ }
+{
+    let head = walk(document, s, HEAD, begun());
+    let state = head.state;
+    let count = body_of(document, state);
+    let body = walk(document, s, count, head);
+    close(document, s.len(), count, body)
+}
+
+pub(crate) fn scan_list(document: Document, list: &[u16]) -> Reply
+    ensures { λ r. ⌜ r ≡ counted (form (formOf document) readHead (now (list .entry))) ⌝ }
+{
+    let head = walk_list(document, list, HEAD, begun());
+    let state = head.state;
+    let count = body_of(document, state);
+    let body = walk_list(document, list, count, head);
+    close(document, list.len(), count, body)
+}

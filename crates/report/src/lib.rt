@@ -1,0 +1,62 @@
+// Text for the test programs, to standard output. What a program writes is held to its stored output, not proved.
+ghost use mathlib.Core.Path.{_≡_};
+ghost use lib.ListN.{take};
+
+const OUT: i32 = 1;
+
+pub fn text(words: &[u8]) {
+    io::write_all(OUT, words);
+}
+
+pub fn number(x: usize) {
+    io::print_decimal(OUT, x as u64);
+}
+
+// A byte in hexadecimal and a number in decimal, a space before each.
+fn byte_after_space(b: u8) {
+    text(b" ");
+    io::print_hex(OUT, b as u64, 2);
+}
+
+fn number_after_space(x: u16) {
+    text(b" ");
+    number(x as usize);
+}
+
+pub fn bytes(s: &[u8]) {
+    for k in 0..s.len() {
+        byte_after_space(s[k]);
+    }
+}
+
+pub fn numbers(list: &[u16]) {
+    for k in 0..list.len() {
+        number_after_space(list[k]);
+    }
+}
+
+pub fn end_line() {
+    text(b"\n");
+}
+
+// The first `count` bytes or numbers, all if there are fewer.
+pub fn front_bytes<'a>(s: &'a [u8], count: usize) -> &'a [u8]
+    ensures { λ r. ⌜ now r ≡ take count (now (s .entry)) ⌝ }
+{
+    if count < s.len() { &s[..count] } else { s }
+}
+
+pub fn front_numbers<'a>(list: &'a [u16], count: usize) -> &'a [u16]
+    ensures { λ r. ⌜ now r ≡ take count (now (list .entry)) ⌝ }
+{
+    if count < list.len() { &list[..count] } else { list }
+}
+
+// The same of what is lent to be written.
+pub fn room_of_bytes<'a>(s: &'a mut [u8], count: usize) -> &'a mut [u8] {
+    if count < s.len() { &mut s[..count] } else { s }
+}
+
+pub fn room_of_numbers<'a>(list: &'a mut [u16], count: usize) -> &'a mut [u16] {
+    if count < list.len() { &mut list[..count] } else { list }
+}
