@@ -5,7 +5,7 @@ use Rattle.reader.specs.Groups.{readFrom}
 use Rattle.reader.specs.Walk.{Refusal, Numbers, walk, form}
 use Rattle.reader.specs.Answer.{unpacked, settlementRead, settlementPacked}
 
-abbrev Tickets : Type 0
+abbrev pub Tickets : Type 0
 Tickets =
     (unpacked [] ≡ Refusal 1)
     × (unpacked (0x80 ∷ 0x80 ∷ []) ≡ Refusal 2)
@@ -25,7 +25,7 @@ unfolding form walk readFrom
 tickets = (refl, refl, refl, refl, refl, refl, refl, refl, refl, refl, refl)
 
 -- Settlements of a ticket with one grower and one pilot. In a list a number of three groups is refused as its second byte would be.
-abbrev Settlements : Type 0
+abbrev pub Settlements : Type 0
 Settlements =
     (settlementRead 1 1 (0x02 ∷ 0x01 ∷ 0x01 ∷ 0x01 ∷ 0x00 ∷ []) ≡ Refusal 11)
     × (settlementRead 1 1 (0x80 ∷ 0x80 ∷ []) ≡ Refusal 12)

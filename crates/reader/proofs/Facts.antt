@@ -6,15 +6,15 @@ use native.Mathlib.Nat.{zero-add, mul-le-mul, mul-le-mul-right, suc-mul}
 use native.Mathlib.Omega.{arith}
 use borrow.Author.Tests.{le-leb, lt-leb}
 use lib.Dec.{lit<}
-use lib.ListN.{length, getD, drop}
-use lib.Seq.{sets, sets-eq}
+use lib.ListN.{length, getD, take, drop, List·getD-append}
+use lib.Seq.{sets, sets-eq, take-at}
 use Rattle.reader.specs.declared.refusals.Document.{Document}
 use Rattle.reader.specs.declared.Reply.{Reply}
 use Rattle.reader.specs.Refusals.{noRoom}
 use Rattle.reader.specs.Groups.{Bytes, groups, bytes, pack}
 use Rattle.reader.specs.Walk.{Outcome, Refusal, Numbers, readHead, form}
 use Rattle.reader.specs.Layout.{formOf, ticket, settlement}
-use Rattle.reader.specs.Answer.{unpacked, packed, packedAs, settlementRead, settlementPacked, reply, kept}
+use Rattle.reader.specs.Answer.{unpacked, packed, packedAs, settlementRead, settlementPacked, counted, reply, kept}
 use Rattle.grid.proofs.Cases.{never}
 use Rattle.reader.proofs.WalkLaws.{Accepted, form-accepts, accepts-form}
 use Rattle.reader.proofs.Undoing.{unpacked-packs, packed-unpacks, head-whole}
@@ -83,7 +83,7 @@ pub pair-below : (n m i j : ℕ) → i < n → j < m → i * m + j < n * m
 pair-below n m i j h l = omega (arith, suc-mul i m, mul-le-mul-right m h)
 
 -- The five numbers of grower i and pilot j.
-abbrev DealAt : List ℕ → ℕ → Type 0
+abbrev pub DealAt : List ℕ → ℕ → Type 0
 DealAt xs p = Deal (getD xs p 0) (getD xs (p + 1) 0) (getD xs (p + 2) 0) (getD xs (p + 3) 0) (getD xs (p + 4) 0)
 
 accepted-deal : (xs : List ℕ) → Accepted ticket xs → (q : ℕ) → q < getD xs 1 0 * getD xs 2 0 →
@@ -115,7 +115,7 @@ settlement-few n m xs a h k = let q : n * m ≤ 16 * 16 = mul-le-mul h k in omeg
 -- Hours of one byte and pay of two: three bytes, and four for each pair.
 pub settlement-bytes : (n m : ℕ) (xs : List ℕ) → SettlementShape xs n m → n < 128 → m < 128 →
     ((q : ℕ) → q < n * m → (getD xs (3 + 3 * q) 0 < 128) × (getD xs (4 + 3 * q) 0 < 128)) → length (pack xs) ≤ 3 + 4 * (n * m)
-settlement-bytes n m xs a h k w = settlement-short n m xs a h k w
+settlement-bytes = settlement-short
 
 -- Numbers of that shape are accepted: they are packed, and their bytes are read back.
 pub settlement-accepted : (n m : ℕ) (xs : List ℕ) → SettlementShape xs n m →
@@ -135,8 +135,27 @@ reply-with-room room xs h = rw (le-leb (length xs) room h)
 pub reply-without-room : (room : ℕ) (xs : List ℕ) → room < length xs → reply room (Numbers xs) ≡ Reply.Refused noRoom
 reply-without-room room xs h = rw (lt-leb (length xs) room h)
 
+-- Where every outcome has room, a lack of it is never answered.
+pub reply-fits : (room : ℕ) (o : Outcome) → ((xs : List ℕ) → o ≡ Numbers xs → length xs ≤ room) → reply room o ≡ counted o
+reply-fits room (Refusal w) h = refl
+reply-fits room (Numbers xs) h = reply-with-room room xs (h xs refl)
+
+pub unpacked-fits : (room : ℕ) (s : List ℕ) → 1315 ≤ room → reply room (unpacked s) ≡ counted (unpacked s)
+unpacked-fits room s h = reply-fits room (unpacked s) (λ xs e. omega (arith, unpacked-shape s xs e .few))
+
+pub settlement-fits : (room n m : ℕ) (s : List ℕ) → n ≤ 16 → m ≤ 16 → 771 ≤ room →
+    reply room (settlementRead n m s) ≡ counted (settlementRead n m s)
+settlement-fits room n m s hn hm h =
+    reply-fits room (settlementRead n m s) (λ xs e. omega (arith, settlement-few n m xs (settlement-shape n m s xs e) hn hm))
+
 pub kept-with-room : (lent xs : List ℕ) → length xs ≤ length lent → kept lent (Numbers xs) ≡ xs ++ drop (length xs) lent
 kept-with-room lent xs h = rw (le-leb (length xs) (length lent) h) (written-front lent xs h)
+
+pub kept-front : (lent xs : List ℕ) → length xs ≤ length lent → take (length xs) (kept lent (Numbers xs)) ≡ xs
+kept-front lent xs h = rw (kept-with-room lent xs h) (take-at xs (drop (length xs) lent) (length xs) refl)
+
+pub kept-number : (lent xs : List ℕ) (i : ℕ) → length xs ≤ length lent → i < length xs → getD (kept lent (Numbers xs)) i 0 ≡ getD xs i 0
+kept-number lent xs i h l = rw (kept-with-room lent xs h) (List·getD-append xs (drop (length xs) lent) 0 i l)
 
 pub kept-without-room : (lent xs : List ℕ) → length lent < length xs → kept lent (Numbers xs) ≡ lent
 kept-without-room lent xs h = rw (lt-leb (length xs) (length lent) h)

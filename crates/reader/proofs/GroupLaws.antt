@@ -172,7 +172,7 @@ pub pack-length : (x : ℕ) (xs : List ℕ) → length (pack (x ∷ xs)) ≡ len
 pack-length x xs = length-append (encode x) (pack xs)
 
 -- Examples for two groups.
-abbrev TwoGroups : Type 0
+abbrev pub TwoGroups : Type 0
 TwoGroups =
     (readGroups 2 (0xF4 ∷ 0x03 ∷ []) ≡ Number 500 [])
     × (readGroups 2 (0x80 ∷ 0x80 ∷ []) ≡ TooLong)
@@ -194,7 +194,7 @@ three-groups-written bytes x rest w e = read-encodes 3 bytes x rest w e
 pub three-groups-short : (x : ℕ) → x < 128 ^ 3 → length (encode x) ≤ 3
 three-groups-short x h = encode-short 3 x (omega arith) h
 
-abbrev ThreeGroups : Type 0
+abbrev pub ThreeGroups : Type 0
 ThreeGroups =
     (readGroups 3 (0x80 ∷ 0x80 ∷ []) ≡ Ends)
     × (readGroups 3 (0x80 ∷ 0x80 ∷ 0x80 ∷ []) ≡ TooLong)

@@ -17,7 +17,7 @@ use Rattle.reader.specs.State.{start, first, moved}
 use Rattle.reader.specs.Ticket.{fieldOf, afterOf}
 use Rattle.reader.specs.Settlement.{placeAfter}
 use Rattle.reader.specs.Layout.{faultIn, afterIn, bodyIn, formOf}
-use Rattle.reader.specs.Steps.{Known, mostPlaces}
+use Rattle.reader.specs.Steps.{Known, mostPlaces, mostPairs}
 use Rattle.reader.proofs.GroupLaws.{encode-short, pack-length}
 use Rattle.reader.proofs.WalkLaws.{Good}
 use Rattle.reader.proofs.TicketLaws.{ticket-small}
@@ -64,7 +64,7 @@ known-final p s [] k g = k
 known-final p s (x ∷ xs) k g = known-final p (afterIn p s x) xs (known-after p s x k (g .0) .0) (g .1)
 
 -- The numbers of a document are few, so that no count wraps.
-pub known-pairs : (s : State) → Known s → s .growers * s .pilots ≤ 268402689
+pub known-pairs : (s : State) → Known s → s .growers * s .pilots ≤ mostPairs
 known-pairs s k =
     let n : s .growers ≤ 16383 = omega (arith, k .growers) in let m : s .pilots ≤ 16383 = omega (arith, k .pilots) in mul-le-mul n m
 

@@ -17,6 +17,7 @@ use Rattle.reader.specs.Walk.{Outcome, Refusal, Numbers, readHead, final
 use Rattle.reader.specs.State.{start}
 use Rattle.reader.specs.Layout.{formOf}
 use Rattle.reader.specs.Answer.{packedAs, counted, reply, kept}
+use Rattle.reader.specs.Steps.{mostBytes}
 use Rattle.grid.proofs.Cases.{never}
 use Rattle.reader.proofs.WalkLaws.{Accepted, good-take, form-accepts}
 use Rattle.reader.proofs.Undoing.{packed-unpacks}
@@ -25,13 +26,13 @@ use Rattle.reader.proofs.LayoutLaws.{number-small, start-known, known-f
 -- An accepted list is its own numbers, and its bytes are few enough to count.
 pub record Packs (p : Document) (list : List ℕ) : Type 0 where
   pub same : form (formOf p) readHead list ≡ Numbers list
-  pub short : length (pack list) ≤ 4294967296
+  pub short : length (pack list) ≤ mostBytes
 
 counted-numbers : (o : Outcome) (k : ℕ) → Reply.Done k ≡ counted o → (xs : List ℕ) × (o ≡ Numbers xs)
 counted-numbers (Refusal w) k e = never cc
 counted-numbers (Numbers xs) k e = (xs, refl)
 
-accepted-short : (p : Document) (xs : List ℕ) → Accepted (formOf p) xs → length (pack xs) ≤ 4294967296
+accepted-short : (p : Document) (xs : List ℕ) → Accepted (formOf p) xs → length (pack xs) ≤ mostBytes
 accepted-short p xs a =
     let k = known-final p start (take 3 xs) start-known (good-take (formOf p) start 3 xs (a .good)) in
     omega (arith, a .count, body-few p (final (formOf p) start (take 3 xs)) k, good-short p start xs (a .good))
@@ -117,7 +118,7 @@ pub summing-ends : (list : List ℕ) (k total : ℕ) → Summing list k total �
 summing-ends list k total r h = omega (arith, rw (drop-of-length-le list h) at (r .ends))
 
 -- The whole answer from that of the check.
-abbrev Answers : List ℕ → Outcome → Reply → List ℕ → Type 0
+abbrev pub Answers : List ℕ → Outcome → Reply → List ℕ → Type 0
 Answers lent o r out = (r ≡ reply (length lent) (packedAs o)) × (out ≡ kept lent (packedAs o))
 
 pub pack-refused : (o : Outcome) (lent : List ℕ) (w : ℕ) → Reply.Refused w ≡ counted o → Answers lent o (Reply.Refused w) lent

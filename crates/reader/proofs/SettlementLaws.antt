@@ -64,12 +64,14 @@ accepted-settlement n m (k ∷ x ∷ y ∷ xs) a =
     let g = a .good in
     let s₁ = settlementAfter start k in
     let s₂ = settlementAfter s₁ x in
-    let ex : x ≡ n = eqb-true x n (must-holds (eqb x n) 14 (settlement-passes n m s₁ x (g .1 .0) .1)) in
-    let ey : y ≡ m = eqb-true y m (must-holds (eqb y m) 14 (settlement-passes n m s₂ y (g .1 .1 .0) .1)) in
+    let px = settlement-passes n m s₁ x (g .1 .0) .1 in
+    let py = settlement-passes n m s₂ y (g .1 .1 .0) .1 in
+    let ex : x ≡ n = eqb-true x n (must-holds (eqb x n) (settlementRefusals .parties) (lit< tt) px) in
+    let ey : y ≡ m = eqb-true y m (must-holds (eqb y m) (settlementRefusals .parties) (lit< tt) py) in
     let c : suc (suc (suc (length xs))) ≡ 3 + 3 * (x * y) = a .count in
     record {
       count = rw (← ex, ← ey) c;
-      kind = eqb-true k 2 (must-holds (eqb k 2) 13 (settlement-passes n m start k (g .0) .1));
+      kind = eqb-true k 2 (must-holds (eqb k 2) (settlementRefusals .kind) (lit< tt) (settlement-passes n m start k (g .0) .1));
       growers = ex;
       pilots = ey;
       small = good-small n m start (k ∷ x ∷ y ∷ xs) g;

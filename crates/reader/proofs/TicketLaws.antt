@@ -13,7 +13,7 @@ use Rattle.reader.specs.declared.ticket.Field.{Field}
 use Rattle.reader.specs.declared.ticket.Field.the-variants.{Kind, Growers, Pilots, Hours, TariffCap, TariffGain, TariffPay, FreeCap}
 use Rattle.reader.specs.declared.ticket.Field.the-variants.{FreeGain}
 use Rattle.reader.specs.declared.layout.State.{State}
-use Rattle.reader.specs.Refusals.{ticketRefusals, aboveLimit, amountWithoutCap}
+use Rattle.reader.specs.Refusals.{ticketRefusals, hoursAboveLimit, aboveLimit, amountWithoutCap}
 use Rattle.reader.specs.Groups.{encode, groups, pack}
 use Rattle.reader.specs.Walk.{final}
 use Rattle.reader.specs.State.{must, first, start}
@@ -41,15 +41,15 @@ place-after n m (suc (suc zero)) h = absurd (omega arith)
 place-after n m (suc (suc (suc p))) h = rw (three p)
 
 -- A test that must hold and whose refusal is not met holds.
-pub must-holds : (t : Bool) (w : ℕ) → must t (suc w) ≡ 0 → t ≡ true
-must-holds true w e = refl
-must-holds false w e = never cc
+pub must-holds : (t : Bool) (w : ℕ) → 0 < w → must t w ≡ 0 → t ≡ true
+must-holds true w h e = refl
+must-holds false w h e = absurd (omega arith)
 
 party-range : (x : ℕ) → partyFault (ticketRefusals .parties) x ≡ 0 → (1 ≤ x) × (x ≤ 16)
 party-range x e = go (leb 1 x) refl e
   where
     go : (t : Bool) → leb 1 x ≡ t → cond t (must (leb x 16) (ticketRefusals .parties)) (ticketRefusals .parties) ≡ 0 → (1 ≤ x) × (x ≤ 16)
-    go true l e = (leb-true 1 x l, leb-true x 16 (must-holds (leb x 16) 4 e))
+    go true l e = (leb-true 1 x l, leb-true x 16 (must-holds (leb x 16) (ticketRefusals .parties) (lit< tt) e))
     go false l e = never cc
 
 amount-range : (cap x : ℕ) → amountFault cap x ≡ 0 → x ≤ 500
@@ -75,14 +75,14 @@ abbrev pub groupsOf : Field → ℕ
 groupsOf f = cond (ltb (mostOf f) 128) 1 2
 
 pub field-range : (f : Field) (s : State) (x : ℕ) → faultOf f s x ≡ 0 → x ≤ mostOf f
-field-range Kind s x e = omega (arith, eqb-true x 1 (must-holds (eqb x 1) 3 e))
+field-range Kind s x e = omega (arith, eqb-true x 1 (must-holds (eqb x 1) (ticketRefusals .kind) (lit< tt) e))
 field-range Growers s x e = party-range x e .1
 field-range Pilots s x e = party-range x e .1
-field-range Hours s x e = leb-true x 60 (must-holds (leb x 60) 5 e)
-field-range TariffCap s x e = leb-true x 60 (must-holds (leb x 60) 6 e)
+field-range Hours s x e = leb-true x 60 (must-holds (leb x 60) hoursAboveLimit (lit< tt) e)
+field-range TariffCap s x e = leb-true x 60 (must-holds (leb x 60) aboveLimit (lit< tt) e)
 field-range TariffGain s x e = amount-range (s .cap) x e
 field-range TariffPay s x e = amount-range (s .cap) x e
-field-range FreeCap s x e = leb-true x 60 (must-holds (leb x 60) 6 e)
+field-range FreeCap s x e = leb-true x 60 (must-holds (leb x 60) aboveLimit (lit< tt) e)
 field-range FreeGain s x e = amount-range (s .cap) x e
 
 -- It fits its groups, and they are few enough for a file.
@@ -203,7 +203,7 @@ shape (k ∷ n ∷ m ∷ xs) a =
     let s₁ = ticket .after (ticket .start) k in
     let s₂ = ticket .after s₁ n in
     record {
-      kind = eqb-true k 1 (must-holds (eqb k 1) 3 (g .0));
+      kind = eqb-true k 1 (must-holds (eqb k 1) (ticketRefusals .kind) (lit< tt) (g .0));
       growers = hn;
       pilots = hm;
       count = omega (arith, a .count);
@@ -270,7 +270,7 @@ amount-none : (cap x : ℕ) → amountFault cap x ≡ 0 → cap ≡ 0 → x ≡ 
 amount-none cap x e z = go (leb x 500) (rw z at e)
   where
     go : (t : Bool) → first (must t aboveLimit) (must (eqb x 0) amountWithoutCap) ≡ 0 → x ≡ 0
-    go true e = eqb-true x 0 (must-holds (eqb x 0) 7 e)
+    go true e = eqb-true x 0 (must-holds (eqb x 0) amountWithoutCap (lit< tt) e)
     go false e = never cc
 
 deal-good : (s : State) (q a b c d e : ℕ) (xs : List ℕ) → s .place ≡ 3 + s .growers + s .pilots + 5 * q →
@@ -288,10 +288,10 @@ deal-good s q a b c d e xs h g =
       deal-place n m q 4 (p + 1 + 1 + 1 + 1) (lit< tt) (omega arith),
     ) at g in
     record {
-      tariffCapped = leb-true a 60 (must-holds (leb a 60) 6 (r .0));
+      tariffCapped = leb-true a 60 (must-holds (leb a 60) aboveLimit (lit< tt) (r .0));
       gainCapped = amount-range a b (r .1 .0);
       payCapped = amount-range a c (r .1 .1 .0);
-      freeCapped = leb-true d 60 (must-holds (leb d 60) 6 (r .1 .1 .1 .0));
+      freeCapped = leb-true d 60 (must-holds (leb d 60) aboveLimit (lit< tt) (r .1 .1 .1 .0));
       freeGainCapped = amount-range d e (r .1 .1 .1 .1 .0);
       noTariff = λ z. (amount-none a b (r .1 .0) z, amount-none a c (r .1 .1 .0) z);
       noFree = λ z. amount-none d e (r .1 .1 .1 .1 .0) z;

@@ -2,7 +2,7 @@
 use mathlib.Core.Path.{_≡_}
 use mathlib.Core.Bool.{true, false, cond}
 use mathlib.Core.List.{List, [], _∷_}
-use Prim.Native.Nat.{ℕ, zero, suc, _+_, _-_, _^_, _≤_, _<_}
+use Prim.Native.Nat.{ℕ, zero, suc, _+_, _-_, _*_, _^_, _≤_, _<_}
 use lib.Dec.{ltb}
 use lib.ListN.{length, getD, drop}
 use Rattle.reader.specs.declared.refusals.Document.{Document}
@@ -26,6 +26,13 @@ placed n Padded = Got.Padded
 -- More places than any document has, so that the count of places cannot wrap.
 abbrev pub mostPlaces : ℕ
 mostPlaces = 2147483648
+
+-- The most pairs of two numbers of `groups` groups, and more bytes than their numbers take.
+abbrev pub mostPairs : ℕ
+mostPairs = 16383 * 16383
+
+abbrev pub mostBytes : ℕ
+mostBytes = 4294967296
 
 -- What a state is known to be where no fault was met: its numbers were read, so they have few groups.
 pub record Known (s : State) : Type 0 where

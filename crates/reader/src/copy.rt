@@ -6,7 +6,7 @@ ghost use lib.Seq.{sets};
 ghost use Rattle.reader.specs.Groups.{bytes, pack};
 ghost use Rattle.reader.specs.Walk.{readHead, form};
 ghost use Rattle.reader.specs.Layout.{formOf};
-ghost use Rattle.reader.specs.Steps.{firstNumbers, Fillable};
+ghost use Rattle.reader.specs.Steps.{mostBytes, firstNumbers, Fillable};
 ghost use Rattle.reader.specs.Answer.{packedAs, reply, kept};
 use crate::Reply;
 use crate::groups::Got;
@@ -14,8 +14,8 @@ use crate::groups::number;
 use crate::groups::size;
 use crate::groups::wide16;
 use crate::groups::write;
-use crate::refusals::NO_ROOM;
 use crate::refusals::Document;
+use crate::refusals::NO_ROOM;
 use crate::scan::scan;
 use crate::scan::scan_list;
 
@@ -38,7 +38,7 @@ fn fill(s: &[u8], list: &mut [u16], count: usize)
 
 // The bytes that a list takes.
 fn size_all(list: &[u16]) -> usize
-    requires { ⌜ length (pack (now list)) ≤ 4294967296 ⌝ }
+    requires { ⌜ length (pack (now list)) ≤ mostBytes ⌝ }
     ensures { λ r. ⌜ r ≡ length (pack (now (list .entry))) ⌝ }
 {
     let mut total: usize = 0;

@@ -21,12 +21,14 @@ pub(crate) enum Got {
     Padded,
 }
 
+// A byte as a number; called, so that a caller need not show that it fits.
 fn wide(b: u8) -> usize
     ensures { λ r. ⌜ (r ≡ b) × (r < 256) ⌝ }
 {
     b as usize
 }
 
+// The same for a number of a list.
 pub(crate) fn wide16(x: u16) -> usize
     ensures { λ r. ⌜ (r ≡ x) × (r < 65536) ⌝ }
 {

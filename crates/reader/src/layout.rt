@@ -3,7 +3,7 @@ ghost use mathlib.Core.Path.{_≡_};
 ghost use Prim.Native.Nat.{_+_, _*_, _<_, _≤_};
 ghost use Rattle.reader.specs.State.{start, must, first, moved};
 ghost use Rattle.reader.specs.Layout.{faultIn, afterIn, bodyIn};
-ghost use Rattle.reader.specs.Steps.{Known, mostPlaces};
+ghost use Rattle.reader.specs.Steps.{Known, mostPlaces, mostPairs};
 use crate::refusals::Document;
 use crate::settlement::settlement_after;
 use crate::settlement::settlement_fault;
@@ -21,6 +21,7 @@ pub(crate) struct State {
     pub(crate) cap: usize,
 }
 
+// The state before the first number.
 pub(crate) fn start() -> State
     ensures { λ r. ⌜ r ≡ start ⌝ }
 {
@@ -70,6 +71,7 @@ pub(crate) fn fault(document: Document, s: State, x: usize) -> u8
     }
 }
 
+// The state after a number that has no fault.
 pub(crate) fn after(document: Document, s: State, x: usize) -> State
     requires { ⌜ Known s ⌝ }
     requires { ⌜ s .place < mostPlaces ⌝ }
@@ -84,9 +86,10 @@ pub(crate) fn after(document: Document, s: State, x: usize) -> State
     }
 }
 
+// How many pairs of a grower and a pilot there are.
 fn pairs(s: State) -> usize
     requires { ⌜ Known s ⌝ }
-    ensures { λ r. ⌜ (r ≡ s .growers * s .pilots) × (r ≤ 268402689) ⌝ }
+    ensures { λ r. ⌜ (r ≡ s .growers * s .pilots) × (r ≤ mostPairs) ⌝ }
 {
     s.growers * s.pilots
 }

@@ -29,6 +29,7 @@ pub(crate) struct Run {
     pub(crate) state: State,
 }
 
+// A run at the front of a source.
 fn begun() -> Run
     ensures { λ r. ⌜ r ≡ begun ⌝ }
 {
@@ -41,6 +42,7 @@ fn begun() -> Run
     }
 }
 
+// A run that goes no further.
 fn refusing(why: u8) -> Run
     ensures { λ r. ⌜ r ≡ refusing why ⌝ }
 {
@@ -98,7 +100,7 @@ fn walk(document: Document, s: &[u8], count: usize, from: Run) -> Run
     run
 }
 
-// The same over a list of numbers.
+// `walk` over a list of numbers.
 fn walk_list(document: Document, list: &[u16], count: usize, from: Run) -> Run
     requires { ⌜ Ready (length (now list)) from ⌝ }
     requires { ⌜ from .state .place + count ≤ mostPlaces ⌝ }
@@ -134,6 +136,7 @@ fn close(document: Document, length: usize, count: usize, run: Run) -> Reply
     }
 }
 
+// Reads and checks the bytes of a whole document: the first three numbers, those that they ask for, and nothing after them.
 pub(crate) fn scan(document: Document, s: &[u8]) -> Reply
     ensures { λ r. ⌜ r ≡ counted (form (formOf document) bytes (now (s .entry))) ⌝ }
 {
@@ -144,6 +147,7 @@ pub(crate) fn scan(document: Document, s: &[u8]) -> Reply
     close(document, s.len(), count, body)
 }
 
+// `scan` over a list of numbers.
 pub(crate) fn scan_list(document: Document, list: &[u16]) -> Reply
     ensures { λ r. ⌜ r ≡ counted (form (formOf document) readHead (now (list .entry))) ⌝ }
 {

@@ -11,6 +11,7 @@ use crate::layout::must;
 use crate::refusals::Document;
 use crate::refusals::refusals_of;
 
+// What is wrong with a number at a place.
 fn place_fault(growers: usize, pilots: usize, place: usize, x: usize) -> u8
     ensures { λ r. ⌜ r ≡ placeFault growers pilots place x ⌝ }
 {
@@ -34,6 +35,7 @@ pub(crate) fn settlement_fault(growers: usize, pilots: usize, s: State, x: usize
     )
 }
 
+// The state after a number: its growers and pilots are kept.
 pub(crate) fn settlement_after(s: State, x: usize) -> State
     requires { ⌜ s .place < mostPlaces ⌝ }
     ensures { λ r. ⌜ r ≡ settlementAfter s x ⌝ }

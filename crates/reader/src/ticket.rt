@@ -11,8 +11,8 @@ use crate::layout::moved;
 use crate::layout::must;
 use crate::refusals::ABOVE_LIMIT;
 use crate::refusals::AMOUNT_WITHOUT_CAP;
-use crate::refusals::HOURS_ABOVE_LIMIT;
 use crate::refusals::Document;
+use crate::refusals::HOURS_ABOVE_LIMIT;
 use crate::refusals::refusals_of;
 
 // What stands at a place of a ticket.
@@ -41,6 +41,7 @@ fn deal_field(k: usize) -> Field
     }
 }
 
+// The field at a state's place: kind, growers, pilots, everybody's hours, and then five fields for each pair.
 fn field_of(s: State) -> Field
     requires { ⌜ Known s ⌝ }
     ensures { λ r. ⌜ r ≡ fieldOf s ⌝ }
@@ -61,12 +62,14 @@ fn field_of(s: State) -> Field
     }
 }
 
+// Growers and pilots are 1 to 16.
 fn party_fault(why: u8, x: usize) -> u8
     ensures { λ r. ⌜ r ≡ partyFault why x ⌝ }
 {
     if 1 <= x { must(x <= 16, why) } else { why }
 }
 
+// In a deal of cap 0 an amount is 0.
 fn cap_fault(cap: usize, x: usize) -> u8
     ensures { λ r. ⌜ r ≡ capFault cap x ⌝ }
 {
@@ -84,6 +87,7 @@ fn amount_fault(cap: usize, x: usize) -> u8
     first(must(x <= 500, ABOVE_LIMIT), cap_fault(cap, x))
 }
 
+// What is wrong with a number in a field; 0 if nothing is.
 fn fault_of(field: Field, s: State, x: usize) -> u8
     ensures { λ r. ⌜ r ≡ faultOf field s x ⌝ }
 {
@@ -101,6 +105,7 @@ fn fault_of(field: Field, s: State, x: usize) -> u8
     }
 }
 
+// The state after a number in a field: growers, pilots and the last cap are kept for later checks.
 fn after_of(field: Field, s: State, x: usize) -> State
     requires { ⌜ s .place < mostPlaces ⌝ }
     ensures { λ r. ⌜ r ≡ afterOf field s x ⌝ }
@@ -118,6 +123,7 @@ fn after_of(field: Field, s: State, x: usize) -> State
     }
 }
 
+// The two steps of a ticket's walk, at a state's place.
 pub(crate) fn ticket_fault(s: State, x: usize) -> u8
     requires { ⌜ Known s ⌝ }
     ensures { λ r. ⌜ r ≡ ticketFault s x ⌝ }

@@ -1,25 +1,69 @@
-// Buffers of no place, one too few, just enough, one too many: what lies past the end is shown to be as it was.
-use super::largest::{bytes, list};
-use super::shown::{pack, unpack};
+// Buffers of no place, one too few, just enough and one too many: what lies past the end is shown to be as it was.
+use super::largest::bytes;
+use super::largest::list;
+use super::shown::pack;
+use super::shown::unpack;
 use report::front_bytes;
+use report::front_numbers;
+use report::text;
 
-fn small() {
-    unpack(b"A into 0", b"\x01\x01\x01\x03\x02\x01\x04\x03\x00\x00", 0);
-    unpack(b"A into 9", b"\x01\x01\x01\x03\x02\x01\x04\x03\x00\x00", 9);
-    unpack(b"A into 10", b"\x01\x01\x01\x03\x02\x01\x04\x03\x00\x00", 10);
-    unpack(b"A into 11", b"\x01\x01\x01\x03\x02\x01\x04\x03\x00\x00", 11);
-    unpack(b"A less a byte into 0", b"\x01\x01\x01\x03\x02\x01\x04\x03\x00", 0);
-    pack(b"A's numbers into 0", &[1, 1, 1, 3, 2, 1, 4, 3, 0, 0], 0);
-    pack(b"A's numbers into 9", &[1, 1, 1, 3, 2, 1, 4, 3, 0, 0], 9);
-    pack(b"A's numbers into 10", &[1, 1, 1, 3, 2, 1, 4, 3, 0, 0], 10);
-    pack(b"A's numbers into 11", &[1, 1, 1, 3, 2, 1, 4, 3, 0, 0], 11);
-    pack(b"A's numbers less one into 0", &[1, 1, 1, 3, 2, 1, 4, 3, 0], 0);
+// The smallest ticket, one grower and one pilot without hours or deals, and a byte more.
+fn smallest() -> [u8; 11] {
+    [1, 1, 1, 0, 0, 0, 0, 0, 0, 0, 0]
+}
+
+fn smallest_list() -> [u16; 11] {
+    [1, 1, 1, 0, 0, 0, 0, 0, 0, 0, 0]
+}
+
+fn unpack_smallest(count: usize, room: usize) {
+    text(b"smallest");
+    unpack(front_bytes(&smallest(), count), room);
+}
+
+fn pack_smallest(count: usize, room: usize) {
+    text(b"smallest list");
+    pack(front_numbers(&smallest_list(), count), room);
+}
+
+fn small_room() {
+    unpack_smallest(10, 0);
+    unpack_smallest(10, 9);
+    unpack_smallest(10, 10);
+    unpack_smallest(10, 11);
+    pack_smallest(10, 0);
+    pack_smallest(10, 9);
+    pack_smallest(10, 10);
+    pack_smallest(10, 11);
+}
+
+// 1 and 9 come before 10.
+fn refused_before_room_is_asked() {
+    unpack_smallest(9, 0);
+    unpack_smallest(11, 0);
+    pack_smallest(9, 0);
+    pack_smallest(11, 0);
+}
+
+fn unpack_largest(room: usize) {
+    text(b"largest");
+    unpack(front_bytes(&bytes(), 2083), room);
+}
+
+fn pack_largest(room: usize) {
+    text(b"largest list");
+    pack(&list(), room);
+}
+
+fn large_room() {
+    unpack_largest(1316);
+    unpack_largest(1320);
+    pack_largest(2084);
+    pack_largest(2100);
 }
 
 pub(crate) fn all() {
-    small();
-    unpack(b"the largest into 1316", front_bytes(&bytes(), 2083), 1316);
-    unpack(b"the largest into 1320", front_bytes(&bytes(), 2083), 1320);
-    pack(b"the largest list into 2084", &list(), 2084);
-    pack(b"the largest list into 2100", &list(), 2100);
+    small_room();
+    refused_before_room_is_asked();
+    large_room();
 }

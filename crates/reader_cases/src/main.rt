@@ -1,5 +1,5 @@
 // Runs the reader over short files, damaged files, the largest ticket and buffers of every interesting length. Each line says
-// what was tried, what the code answered, and whether what was lent kept its content where nothing was to be written.
+// what was tried, what the code answered, and how many of the lent places at the buffer's end kept their content.
 mod buffers;
 mod damaged;
 mod largest;

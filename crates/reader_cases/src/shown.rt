@@ -1,8 +1,15 @@
-// One operation tried on a buffer that was filled with a mark, and a line on what came of it.
+// One operation tried on a buffer that was filled with a mark: what it answered, and how many places at the end kept the mark.
 use reader::Reply;
-use report::{end_line, front_bytes, front_numbers, number, room_of_bytes, room_of_numbers, text};
+use report::end_line;
+use report::front_bytes;
+use report::front_numbers;
+use report::number;
+use report::room_of_bytes;
+use report::room_of_numbers;
+use report::text;
 
 const MARK: u16 = 7777;
+
 const BYTE: u8 = 0x77;
 
 // More places than any ticket or settlement needs.
@@ -57,42 +64,49 @@ fn answer(reply: Reply) {
 }
 
 fn report_on(reply: Reply, kept: usize, room: usize) {
+    text(b" into ");
+    number(room);
     text(b": ");
     answer(reply);
     text(b", ");
     number(kept);
-    text(b" of ");
-    number(room);
-    text(b" places kept");
+    text(b" kept");
     end_line();
 }
 
+pub(crate) fn place_is(what: &[u8], place: usize, x: usize) {
+    text(what);
+    text(b" with ");
+    number(x);
+    text(b" at ");
+    number(place);
+}
+
 // Unpacks into a list of `room` places.
-pub(crate) fn unpack(label: &[u8], ticket: &[u8], room: usize) {
+pub(crate) fn unpack(ticket: &[u8], room: usize) {
     let mut lent = marked_list();
     let reply = reader::unpack(ticket, room_of_numbers(&mut lent, room));
-    text(label);
     report_on(reply, kept_numbers(front_numbers(&lent, room)), room);
 }
 
 // Packs into a buffer of `room` bytes.
-pub(crate) fn pack(label: &[u8], list: &[u16], room: usize) {
+pub(crate) fn pack(list: &[u16], room: usize) {
     let mut lent = marked_bytes();
     let reply = reader::pack(list, room_of_bytes(&mut lent, room));
-    text(label);
     report_on(reply, kept_bytes(front_bytes(&lent, room)), room);
 }
 
-pub(crate) fn read_settlement(label: &[u8], settlement: &[u8], growers: usize, pilots: usize, room: usize) {
+// The settlement of one grower and some pilots.
+pub(crate) fn read_settlement(settlement: &[u8], pilots: usize, room: usize) {
     let mut lent = marked_list();
-    let reply = reader::read_settlement(settlement, growers, pilots, room_of_numbers(&mut lent, room));
-    text(label);
+    let places = room_of_numbers(&mut lent, room);
+    let reply = reader::read_settlement(settlement, 1, pilots, places);
     report_on(reply, kept_numbers(front_numbers(&lent, room)), room);
 }
 
-pub(crate) fn write_settlement(label: &[u8], list: &[u16], growers: usize, pilots: usize, room: usize) {
+pub(crate) fn write_settlement(list: &[u16], pilots: usize, room: usize) {
     let mut lent = marked_bytes();
-    let reply = reader::write_settlement(list, growers, pilots, room_of_bytes(&mut lent, room));
-    text(label);
+    let places = room_of_bytes(&mut lent, room);
+    let reply = reader::write_settlement(list, 1, pilots, places);
     report_on(reply, kept_bytes(front_bytes(&lent, room)), room);
 }

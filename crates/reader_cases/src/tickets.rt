@@ -1,8 +1,15 @@
 // Short files, byte by byte, and the tickets A to D there and back.
-use super::shown::{marked_bytes, marked_list};
+use super::shown::marked_bytes;
+use super::shown::marked_list;
 use check::same;
 use reader::Reply;
-use report::{bytes, end_line, front_bytes, front_numbers, number, numbers, text};
+use report::bytes;
+use report::end_line;
+use report::front_bytes;
+use report::front_numbers;
+use report::number;
+use report::numbers;
+use report::text;
 
 // Packs again what was unpacked and compares it with the ticket.
 fn there_and_back(ticket: &[u8], list: &[u16]) {

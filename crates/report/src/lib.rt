@@ -49,7 +49,11 @@ pub fn front_bytes<'a>(s: &'a [u8], count: usize) -> &'a [u8]
 pub fn front_numbers<'a>(list: &'a [u16], count: usize) -> &'a [u16]
     ensures { λ r. ⌜ now r ≡ take count (now (list .entry)) ⌝ }
 {
-    if count < list.len() { &list[..count] } else { list }
+    if count < list.len() {
+        &list[..count]
+    } else {
+        list
+    }
 }
 
 // The same of what is lent to be written.
@@ -58,5 +62,9 @@ pub fn room_of_bytes<'a>(s: &'a mut [u8], count: usize) -> &'a mut [u8] {
 }
 
 pub fn room_of_numbers<'a>(list: &'a mut [u16], count: usize) -> &'a mut [u16] {
-    if count < list.len() { &mut list[..count] } else { list }
+    if count < list.len() {
+        &mut list[..count]
+    } else {
+        list
+    }
 }

@@ -18,17 +18,20 @@ size-all-requires : tie.Need-size-all-requires
 size-all-requires c κs = accepted c .short
 
 returns : tie.Need-returns
-returns c = let s = c .before .before .before .before .before .before .before in
+returns c =
+    let s = c .before .before .before .before .before .before .before in
     pack-short (s .args .document) (s .args .list .now) (s .args .out .now) (accepted (c .before .before))
     (omega (arith, c .before .size-all .ensures, c .if1 .taken))
 
 returns-2 : tie.Need-returns-2
-returns-2 c = let s = c .before .before .before .before .before .before in
+returns-2 c =
+    let s = c .before .before .before .before .before .before in
     pack-refused (form (formOf (s .args .document)) readHead (s .args .list .now)) (s .args .out .now) _
     (sym (c .before .seen .given .1) ∙ c .before .before .before .scan-list .ensures)
 
 returns-3 : tie.Need-returns-3
-returns-3 c = let s = c .before .before .before .before .before .before .before .before .before .before .before in
+returns-3 c =
+    let s = c .before .before .before .before .before .before .before .before .before .before .before in
     pack-done (s .args .document) (s .args .list .now) (s .args .out .now) _ _
     (accepted (c .before .before .before .before .before .before))
     (c .before .before .before .before .before .size-all .ensures)

@@ -9,23 +9,27 @@ use Rattle.reader.proofs.copy.receive.Statement.{statement}
 use Rattle.reader.proofs.copy.receive.Tie as tie
 
 returns : tie.Need-returns
-returns c = let s = c .before .before .before .before .before .before .before in
+returns c =
+    let s = c .before .before .before .before .before .before .before in
     reply-short (form (formOf (s .args .document)) bytes (s .args .s .now)) (s .args .list .now) _
     (sym (c .before .before .seen2 .given .1) ∙ c .before .before .before .before .scan .ensures)
     (c .if1 .taken)
 
 fill-requires : tie.Need-fill-requires
-fill-requires c κs = let s = c .before .before .before .before .before .before .before .before in
+fill-requires c κs =
+    let s = c .before .before .before .before .before .before .before .before in
     let e = sym (c .before .before .before .seen2 .given .1) ∙ c .before .before .before .before .before .scan .ensures in
     (scanned-fills (s .args .document) _ _ e .0, c .before .if1 .left)
 
 returns-2 : tie.Need-returns-2
-returns-2 c = let s = c .before .before .before .before .before .before in
+returns-2 c =
+    let s = c .before .before .before .before .before .before in
     reply-refused (form (formOf (s .args .document)) bytes (s .args .s .now)) (s .args .list .now) _
     (sym (c .before .seen .given .1) ∙ c .before .before .before .scan .ensures)
 
 returns-3 : tie.Need-returns-3
-returns-3 c = let s = c .before .before .before .before .before .before .before .before .before .before .before in
+returns-3 c =
+    let s = c .before .before .before .before .before .before .before .before .before .before .before in
     reply-filled (s .args .document) (s .args .s .now) (s .args .list .now) _ _
     (sym (c .before .before .before .before .before .before .seen2 .given .1)
     ∙ c .before .before .before .before .before .before .before .before .scan .ensures)

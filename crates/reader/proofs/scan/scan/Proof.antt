@@ -20,7 +20,8 @@ body-of-requires : tie.Need-body-of-requires
 body-of-requires c κs = head-goes _ bytes _ _ (headed (c .before)) .0 .known
 
 walk-requires-2 : tie.Need-walk-requires-2
-walk-requires-2 c κs = let h = head-goes _ bytes _ _ (headed (c .before .before)) in
+walk-requires-2 c κs =
+    let h = head-goes _ bytes _ _ (headed (c .before .before)) in
     (h .0, omega (arith, h .1, c .body-of .ensures .1))
 
 returns : tie.Need-returns

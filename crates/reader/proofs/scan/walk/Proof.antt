@@ -24,7 +24,8 @@ number-requires : tie.Need-number-requires Inv-loop μ-loop
 number-requires c κs = c .before .before .before .loop .inv .ready .within
 
 step-requires : tie.Need-step-requires Inv-loop μ-loop
-step-requires c κs = let i = c .before .before .before .before .loop .inv in
+step-requires c κs =
+    let i = c .before .before .before .before .loop .inv in
     (i .ready .known, omega (arith, i .place, c .before .before .before .before .before .before .pre .1))
 
 loop-again : tie.Need-loop-again Inv-loop μ-loop

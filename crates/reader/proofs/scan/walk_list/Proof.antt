@@ -20,7 +20,8 @@ returns : tie.Need-returns Inv-loop μ-loop
 returns c = running-refused _ readHead _ (c .before .before .loop .inv) (c .if1 .taken)
 
 step-requires : tie.Need-step-requires Inv-loop μ-loop
-step-requires c κs = let i = c .before .before .before .before .loop .inv in
+step-requires c κs =
+    let i = c .before .before .before .before .loop .inv in
     (i .ready .known, omega (arith, i .place, c .before .before .before .before .before .before .pre .1))
 
 loop-again : tie.Need-loop-again Inv-loop μ-loop

@@ -16,7 +16,8 @@ returns-3 : tie.Need-returns-3
 returns-3 c = rw (c .before .match .keys3) (rw (c .before .before .refusals-of .ensures) at (c .must3 .ensures))
 
 returns-4 : tie.Need-returns-4
-returns-4 c = let s = c .before .before in
+returns-4 c =
+    let s = c .before .before in
     sym (pair-fault (s .args .growers) (s .args .pilots) (s .args .place) (s .args .x) (omega arith))
 
 pub place-fault-spec : {M : Type 1} → statement M

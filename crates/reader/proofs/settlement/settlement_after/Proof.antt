@@ -16,7 +16,8 @@ returns-3 : tie.Need-returns-3
 returns-3 c = after-place 2 (c .before .before .args .s) (c .before .before .args .x) _ (c .before .match .keys3) (c .moved3 .ensures)
 
 returns-4 : tie.Need-returns-4
-returns-4 c = let s = c .before .before in
+returns-4 c =
+    let s = c .before .before in
     c .moved4 .ensures ∙ sym (pair-after (s .args .s .place) (s .args .s) (s .args .x) (omega arith))
 
 pub settlement-after-spec : {M : Type 1} → statement M
