@@ -1,7 +1,7 @@
 // Rows and squares of numbers: the functions that several crates need. Each answers on every input.
 ghost use mathlib.Core.Path.{_≡_};
 ghost use Prim.Native.Nat.{ℕ, _<_};
-ghost use lib.ListN.{getD};
+ghost use lib.ListN.{getD, take};
 ghost use Rattle.grid.specs.Grid.{at, Square, Row};
 ghost use Rattle.grid.specs.Lines.{rowSum, colSum};
 
@@ -13,6 +13,24 @@ pub fn wide(x: u16) -> u64
     ensures { λ r. ⌜ (r ≡ x) × (r < 65536) ⌝ }
 {
     x as u64
+}
+
+// A number of a list as a count or a place.
+pub fn index(x: u16) -> usize
+    ensures { λ r. ⌜ (r ≡ x) × (r < 65536) ⌝ }
+{
+    x as usize
+}
+
+// The first `count` numbers of a list, all if there are fewer.
+pub fn front<'a>(list: &'a [u16], count: usize) -> &'a [u16]
+    ensures { λ r. ⌜ now r ≡ take count (now (list .entry)) ⌝ }
+{
+    if count < list.len() {
+        &list[..count]
+    } else {
+        list
+    }
 }
 
 // The number at a place of a list, 0 past its end.

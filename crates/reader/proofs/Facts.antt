@@ -1,5 +1,6 @@
 -- What the crates above cite: packing and reading undo one another, what an accepted ticket or settlement is, and what an operation leaves.
-use mathlib.Core.Path.{_≡_, refl, sym, ap}
+use mathlib.Core.Path.{_≡_, refl, sym, ap, _∙_}
+use mathlib.Core.Logic.{⊎-elim}
 use mathlib.Core.List.{List, [], _∷_, _++_}
 use Prim.Native.Nat.{ℕ, zero, suc, _+_, _*_, _≤_, _<_}
 use native.Mathlib.Nat.{zero-add, mul-le-mul, mul-le-mul-right, suc-mul}
@@ -15,7 +16,7 @@ use Rattle.reader.specs.Groups.{Bytes, groups, bytes, pack}
 use Rattle.reader.specs.Walk.{Outcome, Refusal, Numbers, readHead, form}
 use Rattle.reader.specs.Layout.{formOf, ticket, settlement}
 use Rattle.reader.specs.Answer.{unpacked, packed, packedAs, settlementRead, settlementPacked, counted, reply, kept}
-use Rattle.grid.proofs.Cases.{never}
+use Rattle.grid.proofs.Cases.{never, lt-or-le}
 use Rattle.reader.proofs.WalkLaws.{Accepted, form-accepts, accepts-form}
 use Rattle.reader.proofs.Undoing.{unpacked-packs, packed-unpacks, head-whole}
 use Rattle.reader.proofs.TicketLaws.{Shape, shape, ticket-hours, Deal, ticket-deal}
@@ -159,3 +160,19 @@ kept-number lent xs i h l = rw (kept-with-room lent xs h) (List·getD-append xs 
 
 pub kept-without-room : (lent xs : List ℕ) → length lent < length xs → kept lent (Numbers xs) ≡ lent
 kept-without-room lent xs h = rw (lt-leb (length xs) (length lent) h)
+
+-- What an operation that is done has written, and what one that has room refuses.
+pub reply-done : (o : Outcome) (lent : List ℕ) (count : ℕ) → Reply.Done count ≡ reply (length lent) o →
+    (xs : List ℕ) × (o ≡ Numbers xs) × (take count (kept lent o) ≡ xs)
+reply-done (Refusal w) lent count e = never cc
+reply-done (Numbers xs) lent count e = ⊎-elim
+    (λ h. never (cc (e ∙ reply-without-room (length lent) xs h)))
+    (λ h. let d : Reply.Done count ≡ Reply.Done (length xs) = e ∙ reply-with-room (length lent) xs h in
+    let k : count ≡ length xs = cc in
+    (xs, refl, ap (λ (n : ℕ). take n (kept lent (Numbers xs))) k ∙ kept-front lent xs h))
+    (lt-or-le (length lent) (length xs))
+
+pub reply-refused : (room : ℕ) (o : Outcome) (w : ℕ) → ((xs : List ℕ) → o ≡ Numbers xs → length xs ≤ room) →
+    Reply.Refused w ≡ reply room o → o ≡ Refusal w
+reply-refused room (Refusal v) w fits e = let d : w ≡ v = cc in ap Refusal (sym d)
+reply-refused room (Numbers xs) w fits e = never (cc (e ∙ reply-with-room room xs (fits xs refl)))

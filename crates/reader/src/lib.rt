@@ -16,6 +16,9 @@ use copy::deliver;
 use copy::receive;
 use refusals::Document;
 
+// The refusal for a lent buffer that is too short.
+pub use refusals::NO_ROOM;
+
 // What an operation answers: the refusal, or how many numbers or bytes it wrote.
 pub enum Reply {
     Refused { why: u8 },

@@ -25,7 +25,7 @@ pub(crate) const ABOVE_LIMIT: u8 = 7;
 
 pub(crate) const AMOUNT_WITHOUT_CAP: u8 = 8;
 
-pub(crate) const NO_ROOM: u8 = 10;
+pub const NO_ROOM: u8 = 10;
 
 // The numbers of a document: 1 to 5 and 9 for a ticket, 11 to 16 for a settlement.
 pub(crate) fn refusals_of(document: Document) -> Refusals

@@ -1,0 +1,63 @@
+-- `marker::mark_against` meets its contract: the settlement's bytes are refused, or read into numbers that are judged.
+-- Assumes nothing.
+use mathlib.Core.Path.{_≡_, sym, _∙_}
+use native.Mathlib.Omega.{arith}
+use Rattle.reader.specs.Walk.{Numbers}
+use Rattle.reader.specs.Answer.{settlementRead}
+use Rattle.marker.specs.View.{growersOf, pilotsOf}
+use Rattle.marker.proofs.Marking.{refused-answer, answer-is, judged-answer, answer-shape}
+use borrow.Author.Needs.{needs}
+use Rattle.marker.proofs.mark_against.Statement.{statement}
+use Rattle.marker.proofs.mark_against.Tie as tie
+
+-- the ticket's growers and pilots
+growers-are : (c : tie.After-index2) → c .before .before .index .result ≡ growersOf (c .before .before .before .before .before .before .args .ticket .now)
+growers-are c = c .before .before .index .ensures .0 ∙ c .before .before .before .entry .ensures
+
+pilots-are : (c : tie.After-index2) → c .index2 .result ≡ pilotsOf (c .before .before .before .before .before .before .args .ticket .now)
+pilots-are c = c .index2 .ensures .0 ∙ c .before .entry2 .ensures
+
+-- the front of the list is what the settlement is read as
+answer : (c : tie.After-front) → settlementRead (c .before .before .before .before .before .before .before .before .before .before .before .index .result) (c .before .before .before .before .before .before .before .before .before .index2 .result) (c .before .before .before .before .before .before .before .before .before .before .before .before .before .before .before .args .settlement .now)
+    ≡ Numbers (c .front .result .now)
+answer c =
+    let u = c .before .before .before .before .before .before .read-settlement in
+    answer-is _ _ _ _ _ _ (sym (c .before .before .before .reply2 .given .1) ∙ u .ensures .0) (rw (u .ensures .1) at (c .front .ensures))
+
+judge-requires : tie.Need-judge-requires
+judge-requires c κs =
+    let q = c .before .before .before .before .before .before .before .before .before in
+    let a = answer-shape _ _ _ _ (answer c) in
+    (q .before .before .before .before .before .before .pre, (a .0 ∙ growers-are q, a .1 ∙ pilots-are q))
+
+returns : tie.Need-returns
+returns c =
+    let q = c .before .before .before .before .before .before .before in
+    let few = q .before .before .before .before .before .before .pre in
+    refused-answer (q .before .before .before .before .before .before .args .ticket .now) _ (c .before .before .before .before .before .before .no-settlement .result) _ _ _ (growers-are q) (pilots-are q)
+    (omega (arith, growers-are q, few)) (omega (arith, pilots-are q, few))
+    (c .before .before .before .before .before .before .no-settlement .ensures) (sym (c .before .reply .given .1) ∙ c .before .before .before .before .read-settlement .ensures .0)
+
+returns-2 : tie.Need-returns-2
+returns-2 c =
+    let q = c .before .before .before .before .before .before .before .before .before .before in
+    judged-answer (q .before .before .before .before .before .before .args .ticket .now) _ _ _ _ _ (growers-are q) (pilots-are q) (answer (c .before)) (c .judge .ensures)
+
+pub mark-against-spec : {M : Type 1} → statement M
+mark-against-spec =
+    tie.close
+    (tie.spec
+    (λ c κs. search needs)
+    (λ c κs. search needs)
+    (λ c κs. search needs)
+    (λ c κs. search needs)
+    (λ c κs. search needs)
+    (λ c. search needs)
+    (λ c κs. search needs)
+    (λ c. search needs)
+    (λ c. search needs)
+    (λ c. search needs)
+    (λ c κs. search needs)
+    judge-requires
+    returns
+    returns-2)

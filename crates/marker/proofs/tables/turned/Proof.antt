@@ -1,0 +1,70 @@
+-- `marker::turned` meets its contract: the square is filled row by row.
+use mathlib.Core.Path.{refl}
+use Prim.Native.Nat.{_-_, _≤_}
+use native.Mathlib.Omega.{arith}
+use Rattle.grid.specs.Grid.{at}
+use Rattle.grid.proofs.Squares.{square-is}
+use Rattle.grid.proofs.Filling.{Part, part-start, part-put, part-row, part-end}
+use borrow.Author.Needs.{needs}
+use Rattle.marker.proofs.tables.turned.Statement.{statement}
+use Rattle.marker.proofs.tables.turned.Tie as tie
+
+abbrev Inv-loop2 : tie.InvT-loop2
+Inv-loop2 sq q₀ i j₀ q j = (j ≤ 16) × Part (λ a b. at sq b a) 16 i j q
+
+abbrev μ-loop2 : tie.MeasureT-loop2
+μ-loop2 sq q₀ i j₀ q j = 16 - j
+
+abbrev Inv-loop : tie.InvT-loop
+Inv-loop sq q₀ i₀ q i = (i ≤ 16) × Part (λ a b. at sq b a) 16 i 0 q
+
+abbrev μ-loop : tie.MeasureT-loop
+μ-loop sq q₀ i₀ q i = 16 - i
+
+loop-holds : tie.Need-loop-holds Inv-loop2 μ-loop2 Inv-loop μ-loop
+loop-holds c = (omega arith, part-start _ _ _ (c .zeros .ensures .0) (c .zeros .ensures .1))
+
+loop2-holds : tie.Need-loop2-holds Inv-loop2 μ-loop2 Inv-loop μ-loop
+loop2-holds c = (omega arith, c .before .loop .inv .1)
+
+loop2-again : tie.Need-loop2-again Inv-loop2 μ-loop2 Inv-loop μ-loop
+loop2-again c =
+    let s = c .before .before .before .before .before .before in (
+      search needs,
+      part-put _ _ _ _ _ _ (omega arith) (omega arith) (omega arith)
+          (square-is (s .args .t1) _ (s .good .0) .small (c .before .before .loop2 .j) (c .before .before .before .before .loop .i)) refl
+          (c .before .before .loop2 .inv .1),
+    )
+
+loop-again : tie.Need-loop-again Inv-loop2 μ-loop2 Inv-loop μ-loop
+loop-again c = (omega arith, part-row _ _ _ _ _ (omega arith) (omega arith) (c .before .loop2 .inv .1))
+
+returns : tie.Need-returns Inv-loop2 μ-loop2 Inv-loop μ-loop
+returns c = part-end _ _ _ _ _ (omega arith) (omega arith) (c .before .loop .inv .1)
+
+pub turned-spec : {M : Type 1} → statement M
+turned-spec =
+    tie.close
+    (tie.spec
+    Inv-loop2
+    μ-loop2
+    Inv-loop
+    μ-loop
+    (λ c κs. search needs)
+    loop-holds
+    loop2-holds
+    (λ c. omega arith)
+    (λ c. omega arith)
+    (λ c. omega arith)
+    (λ c. omega arith)
+    (λ c. omega arith)
+    (λ c. omega arith)
+    (λ c. omega arith)
+    (λ c. omega arith)
+    (λ c. omega arith)
+    (λ c. omega arith)
+    loop2-again
+    (λ c. omega arith)
+    (λ c. omega arith)
+    loop-again
+    returns)

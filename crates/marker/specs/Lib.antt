@@ -1,0 +1,5 @@
+pub mod View
+pub mod Verdict
+pub mod Marked
+pub mod Examples
+pub mod Tables

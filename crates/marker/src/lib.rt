@@ -1,0 +1,132 @@
+// Marking: whether a settlement of a ticket is sound, and if not, its first fault.
+ghost use mathlib.Core.Path.{_≡_};
+ghost use Prim.Native.Nat.{_≤_};
+ghost use lib.ListN.{length};
+ghost use Rattle.grid.specs.Grid.{at};
+ghost use Rattle.grid.specs.First.{first};
+ghost use Rattle.marker.specs.View.{growersOf, pilotsOf};
+ghost use Rattle.reader.specs.Answer.{settlementRead};
+ghost use Rattle.marker.specs.Marked.{settlementMarked, marked};
+
+mod cheap_spares;
+mod deal_faults;
+mod judging;
+mod pair_faults;
+mod party_hours;
+mod tables;
+
+use crate::judging::judge;
+use market::Deal;
+use reader::Reply;
+
+// The squares and rows that a list of numbers holds, for the crates above.
+pub use tables::grower_hours;
+pub use tables::pilot_hours;
+pub use tables::square;
+
+// The answer of marking. A fault names the grower, the pilot and the deal; the count is the number of deals looked at in the last walk.
+pub enum Verdict {
+    Refused {
+        why: u8,
+    },
+    Sound {
+        count: usize,
+    },
+    TariffOverCap {
+        grower: usize,
+        pilot: usize,
+    },
+    FreeOverCap {
+        grower: usize,
+        pilot: usize,
+    },
+    WrongPay {
+        grower: usize,
+        pilot: usize,
+    },
+    GrowerOverHours {
+        grower: usize,
+    },
+    PilotOverHours {
+        pilot: usize,
+    },
+    Idle {
+        grower: usize,
+        pilot: usize,
+        deal: Deal,
+        count: usize,
+    },
+    Blocks {
+        grower: usize,
+        pilot: usize,
+        deal: Deal,
+        count: usize,
+    },
+}
+
+// What a square of growers by pilots holds: five quantities of a ticket, three of a settlement.
+pub enum Quantity {
+    TariffCap,
+    TariffGain,
+    TariffPay,
+    FreeCap,
+    JointGain,
+    TariffHours,
+    FreeHours,
+    Pay,
+}
+
+// A party's cheapest spare for a deal, by what it is worth to him.
+pub(crate) enum Spare {
+    Nothing,
+    Worth { worth: u16 },
+}
+
+// A party: his free hours; with each partner his hours by the tariff and in the free deal, and what an hour of each earns him.
+pub(crate) struct Party {
+    pub(crate) unused: u16,
+    pub(crate) tariff: [u16; 16],
+    pub(crate) free: [u16; 16],
+    pub(crate) earned: [u16; 16],
+    pub(crate) share: [u16; 16],
+}
+
+fn no_ticket() -> [u16; 1315]
+    ensures { λ r. ⌜ length r ≡ 1315 ⌝ }
+{
+    [0; 1315]
+}
+
+fn no_settlement() -> [u16; 771]
+    ensures { λ r. ⌜ length r ≡ 771 ⌝ }
+{
+    [0; 771]
+}
+
+// Marks a settlement's bytes against a ticket's numbers.
+fn mark_against(ticket: &[u16], settlement: &[u8]) -> Verdict
+    requires { ⌜ (growersOf (now ticket) ≤ 16) × (pilotsOf (now ticket) ≤ 16) ⌝ }
+    ensures { λ r. ⌜ r ≡ settlementMarked (now (ticket .entry))
+        (settlementRead (growersOf (now (ticket .entry))) (pilotsOf (now (ticket .entry))) (now (settlement .entry))) ⌝ }
+{
+    let growers = grid::index(grid::entry(ticket, 1));
+    let pilots = grid::index(grid::entry(ticket, 2));
+    let mut numbers = no_settlement();
+    let reply = reader::read_settlement(settlement, growers, pilots, &mut numbers);
+    match reply {
+        Reply::Refused { why } => Verdict::Refused { why },
+        Reply::Done { count } => judge(ticket, grid::front(&numbers, count)),
+    }
+}
+
+// Marks a settlement against a ticket, both as the bytes of files.
+pub fn mark(ticket: &[u8], settlement: &[u8]) -> Verdict
+    ensures { λ r. ⌜ r ≡ marked (now (ticket .entry)) (now (settlement .entry)) ⌝ }
+{
+    let mut numbers = no_ticket();
+    let reply = reader::unpack(ticket, &mut numbers);
+    match reply {
+        Reply::Refused { why } => Verdict::Refused { why },
+        Reply::Done { count } => mark_against(grid::front(&numbers, count), settlement),
+    }
+}

@@ -1,0 +1,123 @@
+// Lists of numbers as squares and rows, and squares that are made of squares.
+ghost use mathlib.Core.Path.{_≡_};
+ghost use Prim.Native.Nat.{_+_, _*_, _-_, _<_, min};
+ghost use lib.ListN.{getD};
+ghost use Rattle.grid.specs.Grid.{at};
+ghost use Rattle.grid.specs.Fill.{Filled};
+ghost use Rattle.grid.specs.First.{first};
+ghost use Rattle.marker.specs.View.{growersOf, pilotsOf, pairPlace, placeOf, quantityOf, growerHoursOf, pilotHoursOf};
+ghost use Rattle.marker.specs.Tables.{FilledRow};
+use crate::Quantity;
+
+// As many of a list's growers, or pilots, as a square has room for.
+fn within(count: usize) -> usize
+    ensures { λ r. ⌜ r ≡ min 16 count ⌝ }
+{
+    if count < grid::SIDE {
+        count
+    } else {
+        grid::SIDE
+    }
+}
+
+// Where the k-th of `each` numbers of a pair stands. The product is proved to fit here, once.
+fn pair_place(start: usize, each: usize, k: usize, m: usize, i: usize, j: usize) -> usize
+    requires { ⌜ (start < 200000) × (each < 6) × (k < 5) × (m < 65536) × (i < 16) × (j < 16) ⌝ }
+    ensures { λ r. ⌜ r ≡ pairPlace start each k m i j ⌝ }
+{
+    start + each * (i * m + j) + k
+}
+
+fn place(quantity: Quantity, n: usize, m: usize, i: usize, j: usize) -> usize
+    requires { ⌜ (n < 65536) × (m < 65536) × (i < 16) × (j < 16) ⌝ }
+    ensures { λ r. ⌜ r ≡ placeOf quantity n m i j ⌝ }
+{
+    let start = 3 + n + m;
+    match quantity {
+        Quantity::TariffCap => pair_place(start, 5, 0, m, i, j),
+        Quantity::TariffGain => pair_place(start, 5, 1, m, i, j),
+        Quantity::TariffPay => pair_place(start, 5, 2, m, i, j),
+        Quantity::FreeCap => pair_place(start, 5, 3, m, i, j),
+        Quantity::JointGain => pair_place(start, 5, 4, m, i, j),
+        Quantity::TariffHours => pair_place(3, 3, 0, m, i, j),
+        Quantity::FreeHours => pair_place(3, 3, 1, m, i, j),
+        Quantity::Pay => pair_place(3, 3, 2, m, i, j),
+    }
+}
+
+// A quantity of every pair, growers by pilots, as far as the square reaches.
+pub fn square(list: &[u16], quantity: Quantity) -> [[u16; 16]; 16]
+    ensures { λ r. ⌜ Filled (quantityOf quantity (now (list .entry)))
+        (min 16 (growersOf (now (list .entry)))) (min 16 (pilotsOf (now (list .entry)))) r ⌝ }
+{
+    let n = grid::index(grid::entry(list, 1));
+    let m = grid::index(grid::entry(list, 2));
+    let rows = within(n);
+    let columns = within(m);
+    let mut q = grid::zeros();
+    for i in 0..rows {
+        for j in 0..columns {
+            let p = place(quantity, n, m, i, j);
+            q[i][j] = grid::entry(list, p);
+        }
+    }
+    q
+}
+
+// The first `count` numbers from a place on, as far as the row reaches.
+fn row(list: &[u16], from: usize, count: usize) -> [u16; 16]
+    requires { ⌜ from < 200000 ⌝ }
+    ensures { λ r. ⌜ FilledRow (λ i. getD (now (list .entry)) (from + i) 0) (min 16 count) r ⌝ }
+{
+    let end = within(count);
+    let mut r = grid::zero_row();
+    for i in 0..end {
+        r[i] = grid::entry(list, from + i);
+    }
+    r
+}
+
+pub fn grower_hours(ticket: &[u16]) -> [u16; 16]
+    ensures { λ r. ⌜ FilledRow (growerHoursOf (now (ticket .entry))) (min 16 (growersOf (now (ticket .entry)))) r ⌝ }
+{
+    row(ticket, 3, grid::index(grid::entry(ticket, 1)))
+}
+
+pub fn pilot_hours(ticket: &[u16]) -> [u16; 16]
+    ensures { λ r. ⌜ FilledRow (pilotHoursOf (now (ticket .entry))) (min 16 (pilotsOf (now (ticket .entry)))) r ⌝ }
+{
+    let n = grid::index(grid::entry(ticket, 1));
+    row(ticket, 3 + n, grid::index(grid::entry(ticket, 2)))
+}
+
+// Pilots by growers.
+pub(crate) fn turned(sq: [[u16; 16]; 16]) -> [[u16; 16]; 16]
+    ensures { λ r. ⌜ Filled (λ i j. at sq j i) 16 16 r ⌝ }
+{
+    let mut q = grid::zeros();
+    for i in 0..grid::SIDE {
+        for j in 0..grid::SIDE {
+            q[i][j] = sq[j][i];
+        }
+    }
+    q
+}
+
+fn less(a: u16, b: u16) -> u16
+    ensures { λ r. ⌜ r ≡ a - b ⌝ }
+{
+    if b < a { a - b } else { 0 }
+}
+
+// What growers have of an hour of each free deal: the joint gain without the pilot's pay.
+pub(crate) fn grower_share(gain: [[u16; 16]; 16], pay: [[u16; 16]; 16]) -> [[u16; 16]; 16]
+    ensures { λ r. ⌜ Filled (λ i j. at gain i j - at pay i j) 16 16 r ⌝ }
+{
+    let mut q = grid::zeros();
+    for i in 0..grid::SIDE {
+        for j in 0..grid::SIDE {
+            q[i][j] = less(gain[i][j], pay[i][j]);
+        }
+    }
+    q
+}

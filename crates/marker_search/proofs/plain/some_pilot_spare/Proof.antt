@@ -1,0 +1,26 @@
+use Prim.Native.Nat.{_-_, _≤_}
+use borrow.Author.Needs.{needs}
+use Rattle.marker_search.proofs.plain.some_pilot_spare.Statement.{statement}
+use Rattle.marker_search.proofs.plain.some_pilot_spare.Tie as tie
+
+abbrev Inv-loop : tie.InvT-loop
+Inv-loop ticket settlement deal w source₀ source = source ≤ 5
+
+abbrev μ-loop : tie.MeasureT-loop
+μ-loop ticket settlement deal w source₀ source = 5 - source
+
+pub some-pilot-spare-spec : {M : Type 1} → statement M
+some-pilot-spare-spec =
+    tie.close
+    (tie.spec
+    Inv-loop
+    μ-loop
+    (λ c. search needs)
+    (λ c κs. search needs)
+    (λ c κs. search needs)
+    (λ c κs. search needs)
+    (λ c. search needs)
+    (λ c. search needs)
+    (λ c. search needs)
+    (λ c. search needs)
+    (λ c. search needs))

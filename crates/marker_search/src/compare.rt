@@ -1,0 +1,103 @@
+// The marker's answer beside that of the plain search, field by field, and the count of what came of it.
+use super::plain::Answer;
+use super::plain::found;
+use super::plain::verdict;
+use marker::Verdict;
+use market::Deal;
+
+// Of the settlements within a ticket's limits every feasible one is compared, and of all of them one in EVERY: the marker takes
+// most of the time, and most of them break somebody's hours. With 1 all are compared.
+pub(crate) const EVERY: usize = 5;
+
+// A tally's places: 0 for answers that differ, 1 to 8 for the verdicts that were compared, 9 for tickets, 10 for settlements
+// within the limits, 11 for those compared.
+pub(crate) const DIFFERENT: usize = 0;
+
+pub(crate) const TICKETS: usize = 9;
+
+pub(crate) const WITHIN: usize = 10;
+
+pub(crate) const COMPARED: usize = 11;
+
+pub(crate) fn no_counts() -> [usize; 12] {
+    [0; 12]
+}
+
+fn next(x: usize) -> usize {
+    if x < 1000000000000 { x + 1 } else { x }
+}
+
+pub(crate) fn count(tally: &mut [usize; 12], place: usize) {
+    if place < 12 {
+        tally[place] = next(tally[place]);
+    }
+}
+
+fn number_of(deal: Deal) -> usize {
+    match deal {
+        Deal::Tariff => 0,
+        Deal::Free => 1,
+    }
+}
+
+// The marker's verdict by its number. A refusal has none, and the plain search never answers 0.
+fn answer(verdict: Verdict) -> Answer {
+    match verdict {
+        Verdict::Refused { why } => found(0, 0, 0, 0, 0),
+        Verdict::Sound { count } => found(1, 0, 0, 0, count),
+        Verdict::TariffOverCap { grower, pilot } => found(2, grower, pilot, 0, 0),
+        Verdict::FreeOverCap { grower, pilot } => found(3, grower, pilot, 1, 0),
+        Verdict::WrongPay { grower, pilot } => found(4, grower, pilot, 1, 0),
+        Verdict::GrowerOverHours { grower } => found(5, grower, 0, 0, 0),
+        Verdict::PilotOverHours { pilot } => found(6, 0, pilot, 0, 0),
+        Verdict::Idle {
+            grower,
+            pilot,
+            deal,
+            count,
+        } => found(7, grower, pilot, number_of(deal), count),
+        Verdict::Blocks {
+            grower,
+            pilot,
+            deal,
+            count,
+        } => found(8, grower, pilot, number_of(deal), count),
+    }
+}
+
+fn same(a: Answer, b: Answer) -> bool {
+    a.number == b.number
+        && a.grower == b.grower
+        && a.pilot == b.pilot
+        && a.deal == b.deal
+        && a.count == b.count
+}
+
+// The answer that is wanted of the marker, and the marker's.
+fn judge(ticket: &[u8; 16], settlement: &[u8; 9], wanted: Answer, tally: &mut [usize; 12]) {
+    count(&mut *tally, COMPARED);
+    count(&mut *tally, wanted.number);
+    let given = answer(marker::mark(ticket, settlement));
+    if !same(wanted, given) {
+        count(&mut *tally, DIFFERENT);
+    }
+}
+
+fn is_feasible(number: usize) -> bool {
+    number == 1 || number == 7 || number == 8
+}
+
+// A settlement within the limits.
+pub(crate) fn within(ticket: &[u8; 16], settlement: &[u8; 9], tally: &mut [usize; 12]) {
+    let wanted = verdict(ticket, settlement);
+    count(&mut *tally, WITHIN);
+    if is_feasible(wanted.number) || tally[WITHIN] % EVERY == 0 {
+        judge(ticket, settlement, wanted, tally);
+    }
+}
+
+// A settlement beyond them.
+pub(crate) fn beyond(ticket: &[u8; 16], settlement: &[u8; 9], tally: &mut [usize; 12]) {
+    let wanted = verdict(ticket, settlement);
+    judge(ticket, settlement, wanted, tally);
+}

@@ -1,0 +1,51 @@
+// What is searched, and what was found in a grid.
+use super::compare::COMPARED;
+use super::compare::DIFFERENT;
+use super::compare::EVERY;
+use super::compare::TICKETS;
+use super::compare::WITHIN;
+use report::end_line;
+use report::number;
+use report::text;
+
+fn line(x: usize, words: &[u8]) {
+    text(b"  ");
+    number(x);
+    text(b" ");
+    text(words);
+    end_line();
+}
+
+pub(crate) fn what_is_searched() {
+    text(
+        b"tickets: all hours 0 to 2, all caps 0 to 2, all amounts 0 to 2, but 0 in a deal of cap 0\n",
+    );
+    text(
+        b"settlements of each: hours 0 to their cap and pay 0 to c, every feasible one and one in ",
+    );
+    number(EVERY);
+    text(
+        b" of all;\n  and each of the six numbers one above its limit, alone and with all that follow, the others at theirs\n",
+    );
+}
+
+fn verdicts(counts: [usize; 12]) {
+    line(counts[1], b"sound");
+    line(counts[2], b"tariff hours over their cap");
+    line(counts[3], b"free hours over their cap");
+    line(counts[4], b"pay wrong");
+    line(counts[5], b"grower over his hours");
+    line(counts[6], b"pilot over his hours");
+    line(counts[7], b"idle");
+    line(counts[8], b"blocks");
+}
+
+pub(crate) fn tally(name: &[u8], counts: [usize; 12]) {
+    text(name);
+    end_line();
+    line(counts[TICKETS], b"tickets");
+    line(counts[WITHIN], b"settlements within their limits");
+    line(counts[COMPARED], b"settlements compared, of which");
+    verdicts(counts);
+    line(counts[DIFFERENT], b"answered otherwise by the marker");
+}
