@@ -248,6 +248,6 @@ module _ (t : Ticket) (x : Settlement) where
   pub sound-count : (count : ℕ) → judged t x ≡ Sound count → count ≡ 2 * pairs t
   sound-count count e = let z = passes (passed (rw e)) in cc
 
-  -- The same by the scope's number.
+  -- The same by the verdict's number.
   pub sound-number : NoStandby t → (verdictNumber (judged t x) ≡ 1) ↔ market.Sound t x
   sound-number free = (λ h. passed-iff free .0 (passed h), λ s. rw (passes (passed-iff free .1 s)))

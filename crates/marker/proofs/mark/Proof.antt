@@ -9,7 +9,9 @@ use Rattle.marker.proofs.mark.Statement.{statement}
 use Rattle.marker.proofs.mark.Tie as tie
 
 -- the front of the list is what the ticket unpacks to
-numbers-are : (c : tie.After-front) → unpacked (c .before .before .before .before .before .before .before .before .before .before .before .args .ticket .now) ≡ Numbers (c .front .result .now)
+numbers-are : (c : tie.After-front) →
+    unpacked (c .before .before .before .before .before .before .before .before .before .before .before .args .ticket .now)
+    ≡ Numbers (c .front .result .now)
 numbers-are c =
     let u = c .before .before .before .before .before .before .unpack in
     unpacked-is _ _ _ _ (sym (c .before .before .before .reply2 .given .1) ∙ u .ensures .0) (rw (u .ensures .1) at (c .front .ensures))

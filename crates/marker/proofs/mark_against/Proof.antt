@@ -11,7 +11,9 @@ use Rattle.marker.proofs.mark_against.Statement.{statement}
 use Rattle.marker.proofs.mark_against.Tie as tie
 
 -- the ticket's growers and pilots
-growers-are : (c : tie.After-index2) → c .before .before .index .result ≡ growersOf (c .before .before .before .before .before .before .args .ticket .now)
+growers-are : (c : tie.After-index2) →
+    c .before .before .index .result
+    ≡ growersOf (c .before .before .before .before .before .before .args .ticket .now)
 growers-are c = c .before .before .index .ensures .0 ∙ c .before .before .before .entry .ensures
 
 pilots-are : (c : tie.After-index2) → c .index2 .result ≡ pilotsOf (c .before .before .before .before .before .before .args .ticket .now)

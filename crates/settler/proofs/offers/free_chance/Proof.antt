@@ -1,0 +1,32 @@
+-- `settler::offers::free_chance` meets its contract.
+-- Assumes nothing.
+use Prim.Native.Nat.{_+_, _≤_, _<_}
+use native.Mathlib.Omega.{arith}
+use borrow.Author.Tests.{lt-ltb, le-ltb}
+use borrow.Author.Needs.{needs}
+use Rattle.settler.proofs.offers.free_chance.Statement.{statement}
+use Rattle.settler.proofs.offers.free_chance.Tie as tie
+
+returns : tie.Need-returns
+returns c =
+    let s = c .before .before .before .before .before .args in
+    let h : s .old + s .new < s .cap = omega arith in
+    rw (lt-ltb _ _ h) (c .free-offer .ensures)
+
+returns-2 : tie.Need-returns-2
+returns-2 c =
+    let s = c .before .before .before .before .args in
+    let h : s .cap ≤ s .old + s .new = omega arith in
+    rw (le-ltb _ _ h)
+
+pub free-chance-spec : {M : Type 1} → statement M
+free-chance-spec =
+    tie.close
+    (tie.spec
+    (λ c κs. search needs)
+    (λ c κs. search needs)
+    (λ c. search needs)
+    (λ c κs. search needs)
+    (λ c κs. search needs)
+    returns
+    returns-2)

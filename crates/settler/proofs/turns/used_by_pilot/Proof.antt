@@ -1,0 +1,54 @@
+-- `settler::turns::used_by_pilot` meets its contract.
+-- Assumes nothing.
+use Prim.Native.Nat.{_+_, _*_, _-_, _≤_}
+use mathlib.Core.Path.{_≡_}
+use native.Mathlib.Omega.{arith}
+use Rattle.grid.specs.Grid.{at}
+use Rattle.grid.specs.Sum.{sum}
+use Rattle.settler.proofs.Totals.{total-none, total-more, total-end}
+use borrow.Author.Needs.{needs}
+use Rattle.settler.proofs.turns.used_by_pilot.Statement.{statement}
+use Rattle.settler.proofs.turns.used_by_pilot.Tie as tie
+
+abbrev Inv-loop : tie.InvT-loop
+Inv-loop by-tariff old-free new-free j growers total₀ i₀ total i = (i ≤ growers) × (total ≤ 196608 * i) ×
+    (total ≡ sum (λ k. at by-tariff k j + (at old-free k j + at new-free k j)) i)
+
+abbrev μ-loop : tie.MeasureT-loop
+μ-loop by-tariff old-free new-free j growers total₀ i₀ total i = growers - i
+
+loop-holds : tie.Need-loop-holds Inv-loop μ-loop
+loop-holds c = (search needs, search needs, total-none _)
+
+loop-again : tie.Need-loop-again Inv-loop μ-loop
+loop-again c =
+    (search needs, search needs, total-more _ _ _ _ (c .before .before .before .before .before .loop .inv .2) (c .pair-hours .ensures .0))
+
+returns : tie.Need-returns Inv-loop μ-loop
+returns c = total-end _ _ _ _ (omega arith) (c .before .loop .inv .2)
+
+pub used-by-pilot-spec : {M : Type 1} → statement M
+used-by-pilot-spec =
+    tie.close
+    (tie.spec
+    Inv-loop
+    μ-loop
+    loop-holds
+    (λ c. search needs)
+    (λ c. search needs)
+    (λ c. search needs)
+    (λ c. search needs)
+    (λ c. search needs)
+    (λ c. search needs)
+    (λ c. search needs)
+    (λ c. search needs)
+    (λ c. search needs)
+    (λ c. search needs)
+    (λ c. search needs)
+    (λ c. search needs)
+    (λ c κs. search needs)
+    (λ c. search needs)
+    (λ c. search needs)
+    (λ c. search needs)
+    loop-again
+    returns)

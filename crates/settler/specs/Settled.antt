@@ -1,0 +1,41 @@
+-- What settling may answer on a ticket's bytes and a lent buffer: a refusal, and the buffer as it was; or the length of a sound
+-- settlement of the ticket, which stands at the buffer's front, and the rest as it was.
+-- Assumes nothing.
+use Prim.Native.Nat.{ℕ, _+_, _*_, _≤_, _<_}
+use mathlib.Core.Path.{_≡_}
+use mathlib.Core.List.{List}
+use lib.ListN.{length, take, drop}
+use Rattle.reader.specs.declared.Reply.{Reply}
+use Rattle.reader.specs.Refusals.{noRoom}
+use Rattle.reader.specs.Walk.{Outcome, Refusal, Numbers}
+use Rattle.reader.specs.Answer.{settlementRead}
+use Rattle.market.specs.Market.{Sound, NobodyGains}
+use Rattle.marker.specs.View.{growersOf, pilotsOf, ticketOf, settlementOf}
+
+-- The numbers of a settlement of the ticket xs that nobody can better.
+pub record SoundNumbers (xs numbers : List ℕ) : Type 0 where
+  pub sound : Sound (ticketOf xs) (settlementOf numbers)
+  -- for every unfilled deal, every spare of either party and every split with fractions, the two do not both gain
+  pub nobodyGains : NobodyGains (ticketOf xs) (settlementOf numbers)
+
+-- The first `count` bytes of the buffer are the file of such a settlement, and the bytes after them are as before.
+pub record SettledIn (xs lent after : List ℕ) (count : ℕ) : Type 0 where
+  pub within : count ≤ length lent
+  pub numbers : List ℕ
+  pub file : settlementRead (growersOf xs) (pilotsOf xs) (take count after) ≡ Numbers numbers
+  pub good : SoundNumbers xs numbers
+  pub rest : drop count after ≡ drop count lent
+
+-- The bytes that the buffer must have, though the settlement may be shorter: three, and four for each pair.
+abbrev pub roomFor : List ℕ → ℕ
+roomFor xs = 3 + 4 * (growersOf xs * pilotsOf xs)
+
+-- An answer to the ticket xs: a lack of room exactly when the buffer is too short, else a sound settlement.
+pub record Answers (xs lent after : List ℕ) (r : Reply) : Type 0 where
+  pub short : length lent < roomFor xs → (r ≡ Reply.Refused noRoom) × (after ≡ lent)
+  pub settled : roomFor xs ≤ length lent → (count : ℕ) × (r ≡ Reply.Done count) × SettledIn xs lent after count
+
+-- An answer to a ticket's bytes: what unpacking refuses is refused with the same number.
+abbrev pub Settled : Outcome → List ℕ → List ℕ → Reply → Type 0
+Settled (Refusal w) lent after r = (r ≡ Reply.Refused w) × (after ≡ lent)
+Settled (Numbers xs) lent after r = Answers xs lent after r

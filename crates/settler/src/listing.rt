@@ -1,0 +1,54 @@
+// The numbers of a settlement in the order of its file.
+ghost use mathlib.Core.Path.{_≡_};
+ghost use Prim.Native.Nat.{_+_, _<_, _≤_};
+ghost use lib.ListN.{length};
+ghost use Rattle.settler.specs.Listing.{Written, Listed};
+
+// The kind of a file that is a settlement.
+const SETTLEMENT: u16 = 2;
+
+// A count of growers or pilots, as a number of the file.
+fn count(x: usize) -> u16
+    requires { ⌜ x ≤ 16 ⌝ }
+    ensures { λ r. ⌜ r ≡ x ⌝ }
+{
+    x as u16
+}
+
+fn blank() -> [u16; 771]
+    ensures { λ r. ⌜ length r ≡ 771 ⌝ }
+{
+    [0u16; 771]
+}
+
+// Three numbers from a place on.
+fn write_three(list: &mut [u16; 771], place: usize, x: u16, y: u16, z: u16)
+    requires { ⌜ (length (now list) ≡ 771) × (place + 2 < 771) ⌝ }
+    ensures { λ _. ⌜ Written (now (list .entry)) (now (list .exit)) place x y z ⌝ }
+{
+    list[place] = x;
+    list[place + 1] = y;
+    list[place + 2] = z;
+}
+
+// The list of kind, growers and pilots, then for every pair its tariff hours, its free hours and the pay per free hour.
+pub(crate) fn listed(
+    growers: usize,
+    pilots: usize,
+    tariff: [[u16; 16]; 16],
+    free: [[u16; 16]; 16],
+    pay: [[u16; 16]; 16],
+) -> [u16; 771]
+    requires { ⌜ (growers ≤ 16) × (pilots ≤ 16) ⌝ }
+    ensures { λ r. ⌜ (length r ≡ 771) × Listed growers pilots tariff free pay r ⌝ }
+{
+    let mut list = blank();
+    write_three(&mut list, 0, SETTLEMENT, count(growers), count(pilots));
+    let pairs = growers * pilots;
+    for k in 0..pairs {
+        let i = k / pilots;
+        let j = k % pilots;
+        write_three(&mut list, 3 + 3 * k, tariff[i][j], free[i][j], pay[i][j]);
+    }
+    list
+}
