@@ -5,10 +5,6 @@ use super::plain::verdict;
 use marker::Verdict;
 use market::Deal;
 
-// Of the settlements within a ticket's limits every feasible one is compared, and of all of them one in EVERY: the marker takes
-// most of the time, and most of them break somebody's hours. With 1 all are compared.
-pub(crate) const EVERY: usize = 5;
-
 // A tally's places: 0 for answers that differ, 1 to 8 for the verdicts that were compared, 9 for tickets, 10 for settlements
 // within the limits, 11 for those compared.
 pub(crate) const DIFFERENT: usize = 0;
@@ -73,8 +69,9 @@ fn same(a: Answer, b: Answer) -> bool {
         && a.count == b.count
 }
 
-// The answer that is wanted of the marker, and the marker's.
-fn judge(ticket: &[u8; 16], settlement: &[u8; 9], wanted: Answer, tally: &mut [usize; 12]) {
+// A settlement judged by the plain search and by the marker.
+pub(crate) fn judge(ticket: &[u8; 16], settlement: &[u8; 9], tally: &mut [usize; 12]) {
+    let wanted = verdict(ticket, settlement);
     count(&mut *tally, COMPARED);
     count(&mut *tally, wanted.number);
     let given = answer(marker::mark(ticket, settlement));
@@ -83,21 +80,8 @@ fn judge(ticket: &[u8; 16], settlement: &[u8; 9], wanted: Answer, tally: &mut [u
     }
 }
 
-fn is_feasible(number: usize) -> bool {
-    number == 1 || number == 7 || number == 8
-}
-
-// A settlement within the limits.
+// The same of a settlement within its ticket's limits.
 pub(crate) fn within(ticket: &[u8; 16], settlement: &[u8; 9], tally: &mut [usize; 12]) {
-    let wanted = verdict(ticket, settlement);
     count(&mut *tally, WITHIN);
-    if is_feasible(wanted.number) || tally[WITHIN] % EVERY == 0 {
-        judge(ticket, settlement, wanted, tally);
-    }
-}
-
-// A settlement beyond them.
-pub(crate) fn beyond(ticket: &[u8; 16], settlement: &[u8; 9], tally: &mut [usize; 12]) {
-    let wanted = verdict(ticket, settlement);
-    judge(ticket, settlement, wanted, tally);
+    judge(ticket, settlement, tally);
 }

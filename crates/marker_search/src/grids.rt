@@ -22,9 +22,9 @@ fn within_limits(ticket: &[u8; 16], tally: &mut [usize; 12]) {
 fn beyond_limits(ticket: &[u8; 16], tally: &mut [usize; 12]) {
     for place in 3..9usize {
         let alone = settlements::beyond(ticket, place, place + 1);
-        compare::beyond(ticket, &alone, &mut *tally);
+        compare::judge(ticket, &alone, &mut *tally);
         let with_the_rest = settlements::beyond(ticket, place, 9);
-        compare::beyond(ticket, &with_the_rest, &mut *tally);
+        compare::judge(ticket, &with_the_rest, &mut *tally);
     }
 }
 

@@ -1,7 +1,6 @@
 // What is searched, and what was found in a grid.
 use super::compare::COMPARED;
 use super::compare::DIFFERENT;
-use super::compare::EVERY;
 use super::compare::TICKETS;
 use super::compare::WITHIN;
 use report::end_line;
@@ -20,12 +19,9 @@ pub(crate) fn what_is_searched() {
     text(
         b"tickets: all hours 0 to 2, all caps 0 to 2, all amounts 0 to 2, but 0 in a deal of cap 0\n",
     );
+    text(b"settlements of each: all with hours 0 to their cap and pay 0 to c;\n");
     text(
-        b"settlements of each: hours 0 to their cap and pay 0 to c, every feasible one and one in ",
-    );
-    number(EVERY);
-    text(
-        b" of all;\n  and each of the six numbers one above its limit, alone and with all that follow, the others at theirs\n",
+        b"  and each of the six numbers one above its limit, alone and with all that follow, the others at theirs\n",
     );
 }
 
