@@ -17,7 +17,9 @@ use Rattle.settler.specs.declared.Best.{Best}
 use Rattle.settler.specs.declared.Best.the-variants.{Nothing, Offer}
 use Rattle.settler.specs.declared.Next.{Next}
 use Rattle.settler.specs.declared.Next.the-variants.{Finished, Serve}
-use Rattle.settler.specs.View.{line, ticket, alone, heldIn, heldAlone}
+use Rattle.settler.specs.declared.Terms.{Terms}
+use Rattle.settler.specs.declared.Agreed.{Agreed}
+use Rattle.settler.specs.View.{line, ticket, aloneIn, heldIn, heldBy, termsIn, agreedIn}
 use Rattle.settler.specs.Choice.{chance, Greatest, Wanted, AsksNothing, Asked, NextIs}
 
 module _ (t : Ticket) (price : ℕ → ℕ) (held : Held) (i : ℕ) where
@@ -49,20 +51,14 @@ module _ (t : Ticket) (price : ℕ → ℕ) (held : Held) (i : ℕ) where
       }
 
 -- The rows of a grower with a free hour; the search for his best deal was not told his hours.
-module _ (m hours : ℕ) (tariffCap tariffGain tariffPay freeCap jointGain prices tariff old new : List ℕ) where
-  abbrev unbound : Ticket
-  unbound = alone m 0 tariffCap tariffGain tariffPay freeCap jointGain
-
-  abbrev bound : Ticket
-  bound = alone m hours tariffCap tariffGain tariffPay freeCap jointGain
-
-  same-chance : (d : Deal) (j : ℕ) →
-      chance unbound (line prices) (heldAlone tariff old new) 0 d j ≡ chance bound (line prices) (heldAlone tariff old new) 0 d j
+module _ (m hours : ℕ) (terms : Terms) (agreed : Agreed) (prices : List ℕ) where
+  same-chance : (d : Deal) (j : ℕ) → chance (aloneIn m 0 terms) (line prices) (heldBy agreed) 0 d j ≡
+      chance (aloneIn m hours terms) (line prices) (heldBy agreed) 0 d j
   same-chance Tariff j = refl
   same-chance Free j = refl
 
-  same-greatest : (best : Best) → Greatest (chance unbound (line prices) (heldAlone tariff old new) 0) m best →
-      Greatest (chance bound (line prices) (heldAlone tariff old new) 0) m best
+  same-greatest : (best : Best) → Greatest (chance (aloneIn m 0 terms) (line prices) (heldBy agreed) 0) m best →
+      Greatest (chance (aloneIn m hours terms) (line prices) (heldBy agreed) 0) m best
   same-greatest Nothing g = λ d j hj. omega (arith, same-chance d j, g d j hj)
   same-greatest (Offer j d) g = (
     g .0,
@@ -70,11 +66,11 @@ module _ (m hours : ℕ) (tariffCap tariffGain tariffPay freeCap jointGain price
     λ e l hl. omega (arith, same-chance d j, same-chance e l, g .2 e l hl),
   )
 
-  pub asks-for-best : (best : Best) → usedByGrower bound (hoursOf (heldAlone tariff old new)) 0 < hours →
-      Greatest (chance unbound (line prices) (heldAlone tariff old new) 0) m best →
-      Asked bound (line prices) (heldAlone tariff old new) 0 best
+  pub asks-for-best : (best : Best) → usedByGrower (aloneIn m hours terms) (hoursOf (heldBy agreed)) 0 < hours →
+      Greatest (chance (aloneIn m 0 terms) (line prices) (heldBy agreed) 0) m best →
+      Asked (aloneIn m hours terms) (line prices) (heldBy agreed) 0 best
   asks-for-best best free g =
-      asks-for-greatest bound (line prices) (heldAlone tariff old new) 0 best (omega arith) free (same-greatest best g)
+      asks-for-greatest (aloneIn m hours terms) (line prices) (heldBy agreed) 0 best (omega arith) free (same-greatest best g)
 
 -- The first k growers from `from` on, and round to it again, ask for nothing.
 pub record NoneAsks (t : Ticket) (price : ℕ → ℕ) (held : Held) (from k : ℕ) : Type 0 where
@@ -110,14 +106,13 @@ module _ (n m i : ℕ) (growerHours pilotHours : List ℕ) (tariffCap tariffGain
   whole = ticket n m growerHours pilotHours tariffCap tariffGain tariffPay freeCap jointGain
 
   abbrev row : Ticket
-  row = alone m (getD growerHours i 0) (getD tariffCap i []) (getD tariffGain i []) (getD tariffPay i []) (getD freeCap i [])
-      (getD jointGain i [])
+  row = aloneIn m (getD growerHours i 0) (termsIn tariffCap tariffGain tariffPay freeCap jointGain i)
 
   abbrev held : Held
   held = heldIn tariff old new
 
   abbrev heldRow : Held
-  heldRow = heldAlone (getD tariff i []) (getD old i []) (getD new i [])
+  heldRow = heldBy (agreedIn tariff old new i)
 
   most-in : (v j : ℕ) →
       ((e : Deal) (l : ℕ) → l < m → hoursOf heldRow e 0 l < cap row e 0 l → offer row (line prices) e 0 l ≤ v) →
@@ -129,9 +124,9 @@ module _ (n m i : ℕ) (growerHours pilotHours : List ℕ) (tariffCap tariffGain
   nothing-in a Tariff = a Tariff
   nothing-in a Free = a Free
 
-  pub asked-in : (best : Best) → Asked row (line prices) heldRow 0 best → Asked whole (line prices) held i best
-  asked-in Nothing a = nothing-in a
-  asked-in (Offer j Tariff) w = record {
+  asked-row : (best : Best) → Asked row (line prices) heldRow 0 best → Asked whole (line prices) held i best
+  asked-row Nothing a = nothing-in a
+  asked-row (Offer j Tariff) w = record {
     grower = hi;
     pilot = w .pilot;
     free = w .free;
@@ -139,7 +134,7 @@ module _ (n m i : ℕ) (growerHours pilotHours : List ℕ) (tariffCap tariffGain
     taken = w .taken;
     most = most-in (offer whole (line prices) Tariff i j) j (w .most);
   }
-  asked-in (Offer j Free) w = record {
+  asked-row (Offer j Free) w = record {
     grower = hi;
     pilot = w .pilot;
     free = w .free;
@@ -147,6 +142,11 @@ module _ (n m i : ℕ) (growerHours pilotHours : List ℕ) (tariffCap tariffGain
     taken = w .taken;
     most = most-in (offer whole (line prices) Free i j) j (w .most);
   }
+
+  pub asked-in : (terms : Terms) (agreed : Agreed) → terms ≡ termsIn tariffCap tariffGain tariffPay freeCap jointGain i →
+      agreed ≡ agreedIn tariff old new i → (best : Best) →
+      Asked (aloneIn m (getD growerHours i 0) terms) (line prices) (heldBy agreed) 0 best → Asked whole (line prices) held i best
+  asked-in terms agreed et ea best a = asked-row best (rw (et, ea) at a)
 
 -- The search looks at no hours of pilots.
 module _ (n m : ℕ) (growerHours pilotHours : List ℕ) (tariffCap tariffGain tariffPay freeCap jointGain : Grid) (price : ℕ → ℕ)

@@ -11,3 +11,5 @@ pub mod ListLaws
 pub mod TicketTables
 pub mod SettlementNumbers
 pub mod Answering
+pub mod JumpLaws
+pub mod JumpTurns

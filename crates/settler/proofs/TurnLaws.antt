@@ -17,7 +17,9 @@ use Rattle.market.proofs.Deals.{best-deal, not-late, below-top}
 use Rattle.market.proofs.Squares.{raised-squares}
 use Rattle.market.proofs.Steps.{start, step-add, step-move, step-raise}
 use Rattle.market.proofs.Measure.{add-falls, move-falls, raise-falls}
-use Rattle.settler.specs.View.{line, ticket, alone, heldIn, heldAlone}
+use Rattle.settler.specs.declared.Terms.{Terms}
+use Rattle.settler.specs.declared.Agreed.{Agreed}
+use Rattle.settler.specs.View.{line, ticket, alone, aloneIn, heldIn, heldBy, termsIn, agreedIn}
 use Rattle.settler.specs.State.{Fit, Live, Turned}
 use Rattle.settler.specs.Choice.{Wanted}
 use Rattle.settler.specs.LateHours.{HasLate}
@@ -37,27 +39,39 @@ free-hours-fit t prices tariff old new fit live j hj i hi =
     omega (arith, live .inv .core .pair i j hi hj .withinCap Free, fit .freeCap i j hi hj)
 
 -- caps do not depend on anybody's hours
-pub cap-alone : (m hours : ℕ) (tariffCap freeCap : List ℕ) (d : Deal) (j : ℕ) →
-    cap (alone m hours tariffCap [] [] freeCap []) d 0 j ≡ cap (alone 0 0 tariffCap [] [] freeCap []) d 0 j
-cap-alone m hours tariffCap freeCap Tariff j = refl
-cap-alone m hours tariffCap freeCap Free j = refl
+pub cap-alone : (m hours : ℕ) (terms : Terms) (d : Deal) (j : ℕ) → cap (aloneIn m hours terms) d 0 j ≡ cap (aloneIn 0 0 terms) d 0 j
+cap-alone m hours terms Tariff j = refl
+cap-alone m hours terms Free j = refl
 
 -- What a grower's rows tell of his deal with pilot j, and what is found of them.
 module _ (n m i j : ℕ) (growerHours pilotHours : List ℕ) (tariffCap tariffGain tariffPay freeCap jointGain tariff old new : Grid) where
   abbrev whole : Ticket
   whole = ticket n m growerHours pilotHours tariffCap tariffGain tariffPay freeCap jointGain
 
-  pub room-alone : (d : Deal) → hoursOf (heldIn tariff old new) d i j < cap whole d i j →
-      hoursOf (heldAlone (getD tariff i []) (getD old i []) (getD new i [])) d 0 j <
-      cap (alone 0 0 (getD tariffCap i []) [] [] (getD freeCap i []) []) d 0 j
-  room-alone Tariff h = h
-  room-alone Free h = h
+  room-row : (d : Deal) → hoursOf (heldIn tariff old new) d i j < cap whole d i j →
+      hoursOf (heldBy (agreedIn tariff old new i)) d 0 j < cap (aloneIn 0 0 (termsIn tariffCap tariffGain tariffPay freeCap jointGain i)) d 0 j
+  room-row Tariff h = h
+  room-row Free h = h
 
-  pub room-in : (d : Deal) (x : ℕ) →
-      Room (alone m (getD growerHours i 0) (getD tariffCap i []) [] [] (getD freeCap i []) [])
-      (heldAlone (getD tariff i []) (getD old i []) (getD new i [])) d 0 j x → Room whole (heldIn tariff old new) d i j x
-  room-in Tariff x r = record { some = r .some; room = r .room; free = r .free }
-  room-in Free x r = record { some = r .some; room = r .room; free = r .free }
+  row-room : (d : Deal) (x : ℕ) →
+      Room (aloneIn m (getD growerHours i 0) (termsIn tariffCap tariffGain tariffPay freeCap jointGain i))
+      (heldBy (agreedIn tariff old new i)) d 0 j x → Room whole (heldIn tariff old new) d i j x
+  row-room Tariff x r = record { some = r .some; room = r .room; free = r .free }
+  row-room Free x r = record { some = r .some; room = r .room; free = r .free }
+
+  module _ (terms : Terms) (agreed : Agreed) (et : terms ≡ termsIn tariffCap tariffGain tariffPay freeCap jointGain i)
+      (ea : agreed ≡ agreedIn tariff old new i) where
+    pub room-alone : (d : Deal) → hoursOf (heldIn tariff old new) d i j < cap whole d i j →
+        hoursOf (heldBy agreed) d 0 j < cap (aloneIn 0 0 terms) d 0 j
+    room-alone d h = rw (et, ea) (room-row d h)
+
+    pub free-alone : (k : ℕ) → usedByGrower whole (hoursOf (heldIn tariff old new)) i < k →
+        usedByGrower (alone m 0 [] [] [] [] []) (hoursOf (heldBy agreed)) 0 < k
+    free-alone k h = rw ea h
+
+    pub room-in : (d : Deal) (x : ℕ) → Room (aloneIn m (getD growerHours i 0) terms) (heldBy agreed) d 0 j x →
+        Room whole (heldIn tariff old new) d i j x
+    room-in d x r = row-room d x (rw (et, ea) at r)
 
 module _ (t : Ticket) (prices : List ℕ) (tariff old new : Grid) (fit : Fit t) (live : Live t prices tariff old new) (d : Deal) (i j : ℕ)
     (want : Wanted t (line prices) (heldIn tariff old new) d i j) where

@@ -7,3 +7,5 @@ pub mod Result
 pub mod Listing
 pub mod Settled
 pub mod FromList
+pub mod Jumps
+pub mod Moves

@@ -7,6 +7,8 @@ use Rattle.grid.specs.Grid.{Grid, at}
 use Rattle.market.specs.Market.{Ticket}
 use Rattle.market.specs.Method.{Held}
 use Rattle.market.specs.Squares.{inSquares}
+use Rattle.settler.specs.declared.Terms.{Terms}
+use Rattle.settler.specs.declared.Agreed.{Agreed}
 
 -- a row of numbers
 abbrev pub line : List ℕ → ℕ → ℕ
@@ -40,3 +42,24 @@ heldIn tariff old new = inSquares (at tariff) (at old) (at new)
 -- the held hours of one grower alone, in rows
 abbrev pub heldAlone : List ℕ → List ℕ → List ℕ → Held
 heldAlone tariff old new = heldIn (tariff ∷ []) (old ∷ []) (new ∷ [])
+
+-- grower i's rows of the ticket's squares, and of the squares of hours
+abbrev pub termsIn : Grid → Grid → Grid → Grid → Grid → ℕ → Terms
+termsIn tariffCap tariffGain tariffPay freeCap jointGain i = record {
+  «tariff_cap» = getD tariffCap i [];
+  «tariff_gain» = getD tariffGain i [];
+  «tariff_pay» = getD tariffPay i [];
+  «free_cap» = getD freeCap i [];
+  «joint_gain» = getD jointGain i [];
+}
+
+abbrev pub agreedIn : Grid → Grid → Grid → ℕ → Agreed
+agreedIn tariff old new i = record { «by_tariff» = getD tariff i []; «old_free» = getD old i []; «new_free» = getD new i [] }
+
+-- the ticket and the held hours of one grower alone, of these
+abbrev pub aloneIn : ℕ → ℕ → Terms → Ticket
+aloneIn pilots hours terms =
+    alone pilots hours (terms .«tariff_cap») (terms .«tariff_gain») (terms .«tariff_pay») (terms .«free_cap») (terms .«joint_gain»)
+
+abbrev pub heldBy : Agreed → Held
+heldBy agreed = heldAlone (agreed .«by_tariff») (agreed .«old_free») (agreed .«new_free»)

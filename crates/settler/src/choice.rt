@@ -2,59 +2,39 @@
 ghost use mathlib.Core.Path.{_≡_};
 ghost use Prim.Native.Nat.{_+_, _<_, _≤_};
 ghost use mathlib.Core.List.{[]};
-ghost use lib.ListN.{getD};
-ghost use Rattle.grid.specs.Sum.{sum};
-ghost use Rattle.settler.specs.View.{line, ticket, alone, heldIn, heldAlone};
+ghost use Rattle.market.specs.Market.{usedByGrower};
+ghost use Rattle.market.specs.Method.{hoursOf};
+ghost use Rattle.settler.specs.View.{line, ticket, alone, aloneIn, heldIn, heldBy};
 ghost use Rattle.settler.specs.Choice.{chance, Greatest, Asked, NextIs};
+use crate::Agreed;
 use crate::Best;
 use crate::Next;
 use crate::Place;
+use crate::Terms;
 use crate::numbers::pair_hours;
 use crate::numbers::wide;
-use crate::offers::free_chance;
-use crate::offers::tariff_chance;
+use crate::offers::free_at;
+use crate::offers::tariff_at;
+use crate::rows::agreed_of;
+use crate::rows::terms_of;
 use market::Deal;
 
 // The deal that offers a grower most.
-fn best_deal(
-    pilots: usize,
-    tariff_cap: [u16; 16],
-    tariff_gain: [u16; 16],
-    tariff_pay: [u16; 16],
-    free_cap: [u16; 16],
-    joint_gain: [u16; 16],
-    price: &[u32; 16],
-    by_tariff: [u16; 16],
-    old_free: [u16; 16],
-    new_free: [u16; 16],
-) -> Best
+pub(crate) fn best_deal(terms: Terms, agreed: Agreed, price: &[u32; 16], pilots: usize) -> Best
     requires { ⌜ pilots ≤ 16 ⌝ }
-    ensures { λ r. ⌜ Greatest (chance (alone pilots 0 «tariff_cap» «tariff_gain» «tariff_pay» «free_cap» «joint_gain»)
-        (line (now (price .entry))) (heldAlone «by_tariff» «old_free» «new_free») 0) pilots r ⌝ }
+    ensures { λ r. ⌜ Greatest (chance (aloneIn pilots 0 terms) (line (now (price .entry))) (heldBy agreed) 0) pilots r ⌝ }
 {
     let mut top: u32 = 0;
     let mut pilot: usize = 0;
     let mut deal = Deal::Tariff;
     for j in 0..pilots {
-        let tariff = tariff_chance(
-            by_tariff[j],
-            tariff_cap[j],
-            price[j],
-            tariff_gain[j],
-            tariff_pay[j],
-        );
+        let tariff = tariff_at(terms, agreed, price[j], j);
         if top < tariff {
             top = tariff;
             pilot = j;
             deal = Deal::Tariff;
         }
-        let free = free_chance(
-            old_free[j],
-            new_free[j],
-            free_cap[j],
-            price[j],
-            joint_gain[j],
-        );
+        let free = free_at(terms, agreed, price[j], j);
         if top < free {
             top = free;
             pilot = j;
@@ -69,15 +49,13 @@ fn best_deal(
 }
 
 // The hours that a grower has agreed with the first pilots.
-pub(crate) fn used_by_grower(
-    by_tariff: [u16; 16],
-    old_free: [u16; 16],
-    new_free: [u16; 16],
-    pilots: usize,
-) -> u32
+pub(crate) fn used_by_grower(agreed: Agreed, pilots: usize) -> u32
     requires { ⌜ pilots ≤ 16 ⌝ }
-    ensures { λ r. ⌜ r ≡ sum (λ j. getD «by_tariff» j 0 + (getD «old_free» j 0 + getD «new_free» j 0)) pilots ⌝ }
+    ensures { λ r. ⌜ r ≡ usedByGrower (alone pilots 0 [] [] [] [] []) (hoursOf (heldBy agreed)) 0 ⌝ }
 {
+    let by_tariff = agreed.by_tariff;
+    let old_free = agreed.old_free;
+    let new_free = agreed.new_free;
     let mut total: u32 = 0;
     for j in 0..pilots {
         total += pair_hours(by_tariff[j], old_free[j], new_free[j]);
@@ -86,38 +64,14 @@ pub(crate) fn used_by_grower(
 }
 
 // The deal that a grower wants: none without a free hour.
-fn wanted_deal(
-    pilots: usize,
-    hours: u16,
-    tariff_cap: [u16; 16],
-    tariff_gain: [u16; 16],
-    tariff_pay: [u16; 16],
-    free_cap: [u16; 16],
-    joint_gain: [u16; 16],
-    price: &[u32; 16],
-    by_tariff: [u16; 16],
-    old_free: [u16; 16],
-    new_free: [u16; 16],
-) -> Best
+fn wanted_deal(terms: Terms, agreed: Agreed, hours: u16, price: &[u32; 16], pilots: usize) -> Best
     requires { ⌜ pilots ≤ 16 ⌝ }
-    ensures { λ r. ⌜ Asked (alone pilots hours «tariff_cap» «tariff_gain» «tariff_pay» «free_cap» «joint_gain»)
-        (line (now (price .entry))) (heldAlone «by_tariff» «old_free» «new_free») 0 r ⌝ }
+    ensures { λ r. ⌜ Asked (aloneIn pilots hours terms) (line (now (price .entry))) (heldBy agreed) 0 r ⌝ }
 {
-    if wide(hours) <= used_by_grower(by_tariff, old_free, new_free, pilots) {
+    if wide(hours) <= used_by_grower(agreed, pilots) {
         return Best::Nothing;
     }
-    best_deal(
-        pilots,
-        tariff_cap,
-        tariff_gain,
-        tariff_pay,
-        free_cap,
-        joint_gain,
-        price,
-        by_tariff,
-        old_free,
-        new_free,
-    )
+    best_deal(terms, agreed, price, pilots)
 }
 
 // The grower after k others, from `from` on and round to it again.
@@ -151,19 +105,9 @@ pub(crate) fn next_deal(
 {
     for k in 0..growers {
         let i = around(growers, from, k);
-        let best = wanted_deal(
-            pilots,
-            grower_hours[i],
-            tariff_cap[i],
-            tariff_gain[i],
-            tariff_pay[i],
-            free_cap[i],
-            joint_gain[i],
-            price,
-            by_tariff[i],
-            old_free[i],
-            new_free[i],
-        );
+        let terms = terms_of(tariff_cap, tariff_gain, tariff_pay, free_cap, joint_gain, i);
+        let agreed = agreed_of(by_tariff, old_free, new_free, i);
+        let best = wanted_deal(terms, agreed, grower_hours[i], price, pilots);
         match best {
             Best::Nothing => {}
             Best::Offer(j, deal) => {

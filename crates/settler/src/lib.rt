@@ -4,10 +4,13 @@
 mod changes;
 mod choice;
 mod finish;
+mod jumps;
 mod late;
 mod listing;
+mod moves;
 mod numbers;
 mod offers;
+mod rows;
 mod squares;
 mod turns;
 
@@ -21,6 +24,22 @@ use marker::Quantity;
 use market::Deal;
 use reader::NO_ROOM;
 use reader::Reply;
+
+// One grower's rows of the ticket's squares.
+pub(crate) struct Terms {
+    pub(crate) tariff_cap: [u16; 16],
+    pub(crate) tariff_gain: [u16; 16],
+    pub(crate) tariff_pay: [u16; 16],
+    pub(crate) free_cap: [u16; 16],
+    pub(crate) joint_gain: [u16; 16],
+}
+
+// One grower's rows of the squares of hours.
+pub(crate) struct Agreed {
+    pub(crate) by_tariff: [u16; 16],
+    pub(crate) old_free: [u16; 16],
+    pub(crate) new_free: [u16; 16],
+}
 
 // One deal of a ticket.
 pub(crate) struct Place {
@@ -45,6 +64,19 @@ pub(crate) enum Next {
 pub(crate) enum LateHour {
     NoHour,
     Hour(usize, Deal),
+}
+
+// What a turn does for a deal: add hours, swap them for late hours of a grower's deal, or raise the pilot's price.
+pub(crate) enum Move {
+    Add(u16),
+    Swap(usize, Deal),
+    Rise,
+}
+
+// A rise of several prices at once: of which pilots, and by how much.
+pub(crate) struct Jump {
+    pub(crate) pilots: [bool; 16],
+    pub(crate) by: u32,
 }
 
 // The product is proved to fit here, once.

@@ -1,17 +1,13 @@
 // The turns of the method: the next deal is served, or its pilot's price rises, until no grower with a free hour has an open deal.
 ghost use mathlib.Core.Path.{_≡_};
-ghost use Prim.Native.Nat.{_+_, _<_, _≤_};
+ghost use Prim.Native.Nat.{ℕ, _+_, _<_, _≤_};
 ghost use mathlib.Core.List.{[]};
-ghost use lib.ListN.{getD};
-ghost use Rattle.grid.specs.Grid.{at};
-ghost use Rattle.grid.specs.Sum.{sum};
-ghost use Rattle.market.specs.Market.{cap, usedByPilot};
-ghost use Rattle.market.specs.Method.{hoursOf};
-ghost use Rattle.settler.specs.View.{line, ticket, alone, heldIn, heldAlone};
+ghost use Rattle.grid.specs.Grid.{at, Square};
+ghost use Rattle.settler.specs.View.{line, ticket, heldIn};
 ghost use Rattle.settler.specs.State.{Fit, Live, Turned, Ended};
 ghost use Rattle.settler.specs.Choice.{Wanted};
-ghost use Rattle.settler.specs.Changes.{Room};
-use crate::LateHour;
+ghost use Rattle.settler.specs.Moves.{Rises};
+use crate::Move;
 use crate::Next;
 use crate::Place;
 use crate::changes::add_hours;
@@ -19,99 +15,62 @@ use crate::changes::age;
 use crate::changes::raise_price;
 use crate::changes::swap_hours;
 use crate::choice::next_deal;
-use crate::choice::used_by_grower;
-use crate::late::late_hour;
-use crate::numbers::least;
-use crate::numbers::narrow;
-use crate::numbers::pair_hours;
-use crate::numbers::wide;
-use market::Deal;
+use crate::jumps::jump_from;
+use crate::jumps::raise_marked;
+use crate::moves::most_hours;
+use crate::moves::next_move;
+use crate::rows::agreed_of;
+use crate::rows::terms_of;
 
-// How many hours a grower's deal with pilot j has room for.
-fn room(
-    tariff_cap: [u16; 16],
-    free_cap: [u16; 16],
-    by_tariff: [u16; 16],
-    old_free: [u16; 16],
-    new_free: [u16; 16],
-    deal: Deal,
-    j: usize,
-) -> u32
-    requires { ⌜ j < 16 ⌝ }
-    requires { ⌜ hoursOf (heldAlone «by_tariff» «old_free» «new_free») deal 0 j <
-        cap (alone 0 0 «tariff_cap» [] [] «free_cap» []) deal 0 j ⌝ }
-    ensures { λ r. ⌜ (0 < r) × (hoursOf (heldAlone «by_tariff» «old_free» «new_free») deal 0 j + r ≡
-        cap (alone 0 0 «tariff_cap» [] [] «free_cap» []) deal 0 j) ⌝ }
-{
-    match deal {
-        Deal::Tariff => wide(tariff_cap[j]) - wide(by_tariff[j]),
-        Deal::Free => wide(free_cap[j]) - (wide(old_free[j]) + wide(new_free[j])),
-    }
-}
-
-// How many hours a grower has free and his deal with pilot j has room for.
-fn most_hours(
+// Pilot j's price rises: in a jump with other pilots, if they all bear it, or else by one, and his new hours become old.
+fn rise(
+    growers: usize,
     pilots: usize,
-    hours: u16,
-    tariff_cap: [u16; 16],
-    free_cap: [u16; 16],
-    by_tariff: [u16; 16],
-    old_free: [u16; 16],
-    new_free: [u16; 16],
-    deal: Deal,
-    j: usize,
-) -> u32
-    requires { ⌜ (pilots ≤ 16) × (j < 16) ⌝ }
-    requires { ⌜ hoursOf (heldAlone «by_tariff» «old_free» «new_free») deal 0 j <
-        cap (alone 0 0 «tariff_cap» [] [] «free_cap» []) deal 0 j ⌝ }
-    requires { ⌜ sum (λ l. getD «by_tariff» l 0 + (getD «old_free» l 0 + getD «new_free» l 0)) pilots < hours ⌝ }
-    ensures { λ r. ⌜ Room (alone pilots hours «tariff_cap» [] [] «free_cap» []) (heldAlone «by_tariff» «old_free» «new_free») deal 0 j r ⌝ }
-{
-    let free = wide(hours) - used_by_grower(by_tariff, old_free, new_free, pilots);
-    least(
-        free,
-        room(tariff_cap, free_cap, by_tariff, old_free, new_free, deal, j),
-    )
-}
-
-// The hours that pilot j has agreed with the first growers.
-fn used_by_pilot(
+    pilot_hours: [u16; 16],
+    tariff_cap: [[u16; 16]; 16],
+    tariff_gain: [[u16; 16]; 16],
+    tariff_pay: [[u16; 16]; 16],
+    free_cap: [[u16; 16]; 16],
+    joint_gain: [[u16; 16]; 16],
+    price: &mut [u32; 16],
     by_tariff: &[[u16; 16]; 16],
-    old_free: &[[u16; 16]; 16],
-    new_free: &[[u16; 16]; 16],
+    old_free: &mut [[u16; 16]; 16],
+    new_free: &mut [[u16; 16]; 16],
     j: usize,
-    growers: usize,
-) -> u32
-    requires { ⌜ (j < 16) × (growers ≤ 16) ⌝ }
-    ensures { λ r. ⌜ r ≡ sum (λ i. at (now («by_tariff» .entry)) i j +
-        (at (now («old_free» .entry)) i j + at (now («new_free» .entry)) i j)) growers ⌝ }
+)
+    requires { ⌜ (growers ≤ 16) × (pilots ≤ 16) × (j < pilots) × Square (now «old_free») × Square (now «new_free») ⌝ }
+    requires { ⌜ ((l : ℕ) → l < pilots → line (now price) l ≤ 9001) ⌝ }
+    requires { ⌜ ((i : ℕ) → i < growers → at (now «old_free») i j + at (now «new_free») i j < 65536) ⌝ }
+    ensures { λ _. ⌜ Rises (ticket growers pilots [] «pilot_hours» «tariff_cap» «tariff_gain» «tariff_pay» «free_cap» «joint_gain»)
+        (now (price .entry)) (now («by_tariff» .entry)) (now («old_free» .entry)) (now («new_free» .entry))
+        (now (price .exit)) (now («old_free» .exit)) (now («new_free» .exit)) j ⌝ }
 {
-    let mut total: u32 = 0;
-    for i in 0..growers {
-        total += pair_hours(by_tariff[i][j], old_free[i][j], new_free[i][j]);
+    let jump = jump_from(
+        growers,
+        pilots,
+        pilot_hours,
+        tariff_cap,
+        tariff_gain,
+        tariff_pay,
+        free_cap,
+        joint_gain,
+        &*price,
+        by_tariff,
+        &*old_free,
+        &*new_free,
+        j,
+    );
+    let by = jump.by;
+    if 0 < by {
+        let marks = jump.pilots;
+        raise_marked(price, marks, pilots, by);
+        return;
     }
-    total
+    age(growers, old_free, new_free, j);
+    raise_price(price, j);
 }
 
-// The free hours of pilot j.
-fn free_of_pilot(
-    growers: usize,
-    hours: u16,
-    by_tariff: &[[u16; 16]; 16],
-    old_free: &[[u16; 16]; 16],
-    new_free: &[[u16; 16]; 16],
-    j: usize,
-) -> u32
-    requires { ⌜ (growers ≤ 16) × (j < 16) ⌝ }
-    requires { ⌜ usedByPilot (ticket growers 0 [] [] [] [] [] [] [])
-        (hoursOf (heldIn (now «by_tariff») (now «old_free») (now «new_free»))) j ≤ hours ⌝ }
-    ensures { λ r. ⌜ usedByPilot (ticket growers 0 [] [] [] [] [] [] [])
-        (hoursOf (heldIn (now («by_tariff» .entry)) (now («old_free» .entry)) (now («new_free» .entry)))) j + r ≡ hours ⌝ }
-{
-    wide(hours) - used_by_pilot(by_tariff, old_free, new_free, j, growers)
-}
-
-// One turn: the deal is served, or its pilot's price rises.
+// One turn: the deal gets hours, or its pilot's price rises.
 fn turn(
     growers: usize,
     pilots: usize,
@@ -128,7 +87,6 @@ fn turn(
     new_free: &mut [[u16; 16]; 16],
     place: Place,
 )
-    requires { ⌜ (place .grower < 16) × (place .pilot < 16) ⌝ }
     requires { ⌜ Fit (ticket growers pilots «grower_hours» «pilot_hours» «tariff_cap» «tariff_gain» «tariff_pay» «free_cap»
         «joint_gain») ⌝ }
     requires { ⌜ Live (ticket growers pilots «grower_hours» «pilot_hours» «tariff_cap» «tariff_gain» «tariff_pay» «free_cap»
@@ -143,49 +101,48 @@ fn turn(
     let i = place.grower;
     let j = place.pilot;
     let deal = place.deal;
-    let most = most_hours(
-        pilots,
-        grower_hours[i],
-        tariff_cap[i],
-        free_cap[i],
-        by_tariff[i],
-        old_free[i],
-        new_free[i],
-        deal,
-        j,
-    );
-    let free = free_of_pilot(
+    let terms = terms_of(tariff_cap, tariff_gain, tariff_pay, free_cap, joint_gain, i);
+    let agreed = agreed_of(&*by_tariff, &*old_free, &*new_free, i);
+    let most = most_hours(terms, agreed, grower_hours[i], pilots, deal, j);
+    let next = next_move(
         growers,
         pilot_hours[j],
+        tariff_pay,
+        price[j],
         &*by_tariff,
         &*old_free,
         &*new_free,
         j,
+        most,
     );
-    if 0 < free {
-        let count = narrow(least(most, free));
-        add_hours(by_tariff, new_free, deal, i, j, count);
-        return;
-    }
-    let late = late_hour(growers, tariff_pay, price[j], &*by_tariff, &*old_free, j);
-    match late {
-        LateHour::Hour(giver, given) => {
-            swap_hours(
-                by_tariff,
-                old_free,
-                new_free,
-                deal,
-                i,
-                j,
-                given,
-                giver,
-                most,
-            )
-        }
-        LateHour::NoHour => {
-            age(growers, old_free, new_free, j);
-            raise_price(price, j);
-        }
+    match next {
+        Move::Add(count) => add_hours(by_tariff, new_free, deal, i, j, count),
+        Move::Swap(giver, given) => swap_hours(
+            by_tariff,
+            old_free,
+            new_free,
+            deal,
+            i,
+            j,
+            given,
+            giver,
+            most,
+        ),
+        Move::Rise => rise(
+            growers,
+            pilots,
+            pilot_hours,
+            tariff_cap,
+            tariff_gain,
+            tariff_pay,
+            free_cap,
+            joint_gain,
+            price,
+            &*by_tariff,
+            old_free,
+            new_free,
+            j,
+        ),
     }
 }
 

@@ -4,7 +4,7 @@ use Prim.Native.Nat.{_-_, _≤_}
 use mathlib.Core.Logic.{⊎-elim}
 use native.Mathlib.Omega.{arith}
 use Rattle.market.specs.declared.Deal.the-variants.{Tariff, Free}
-use Rattle.settler.specs.View.{line, alone, heldAlone}
+use Rattle.settler.specs.View.{line, aloneIn, heldBy}
 use Rattle.settler.specs.Choice.{chance}
 use Rattle.settler.proofs.GreatestDeals.{Peak, Greater, greater-new, greater-old, peak-none, peak-more, greatest-some, greatest-none}
 use borrow.Author.Needs.{needs}
@@ -12,14 +12,11 @@ use Rattle.settler.proofs.choice.best_deal.Statement.{statement}
 use Rattle.settler.proofs.choice.best_deal.Tie as tie
 
 abbrev Inv-loop : tie.InvT-loop
-Inv-loop pilots price tariff-cap tariff-gain tariff-pay free-cap joint-gain by-tariff old-free new-free top₀ pilot₀ deal₀ j₀ top pilot
-    deal j = (j ≤ pilots) × Peak
-    (chance (alone pilots 0 tariff-cap tariff-gain tariff-pay free-cap joint-gain) (line price) (heldAlone by-tariff old-free new-free) 0)
-    j top pilot deal
+Inv-loop terms agreed price pilots top₀ pilot₀ deal₀ j₀ top pilot deal j =
+    (j ≤ pilots) × Peak (chance (aloneIn pilots 0 terms) (line price) (heldBy agreed) 0) j top pilot deal
 
 abbrev μ-loop : tie.MeasureT-loop
-μ-loop pilots price tariff-cap tariff-gain tariff-pay free-cap joint-gain by-tariff old-free new-free top₀ pilot₀ deal₀ j₀ top pilot deal
-    j = pilots - j
+μ-loop terms agreed price pilots top₀ pilot₀ deal₀ j₀ top pilot deal j = pilots - j
 
 loop-holds : tie.Need-loop-holds Inv-loop μ-loop
 loop-holds c = (search needs, peak-none _ _ _)
@@ -28,15 +25,15 @@ loop-again : tie.Need-loop-again Inv-loop μ-loop
 loop-again c =
     let l = c .before .before .before .before .before .before .before .loop in
     let p = c .before .before .before .if1 in
-    let g : Greater (l .top) (l .pilot) (l .deal) (c .before .before .before .before .tariff-chance .result) (l .j) Tariff (p .top)
+    let g : Greater (l .top) (l .pilot) (l .deal) (c .before .before .before .before .tariff-at .result) (l .j) Tariff (p .top)
     (p .pilot) (p .deal) = ⊎-elim (λ w. greater-new _ _ _ _ _ _ _ _ _ (omega (arith, w .0 .taken)) (w .1) (w .2) (w .3))
     (λ w. greater-old _ _ _ _ _ _ _ _ _ (omega (arith, w .0 .left)) (w .1) (w .2) (w .3)) (p .came) in
-    let h : Greater (p .top) (p .pilot) (p .deal) (c .before .free-chance .result) (l .j) Free (c .if2 .top) (c .if2 .pilot)
+    let h : Greater (p .top) (p .pilot) (p .deal) (c .before .free-at .result) (l .j) Free (c .if2 .top) (c .if2 .pilot)
     (c .if2 .deal) = ⊎-elim (λ w. greater-new _ _ _ _ _ _ _ _ _ (omega (arith, w .0 .taken)) (w .1) (w .2) (w .3))
     (λ w. greater-old _ _ _ _ _ _ _ _ _ (omega (arith, w .0 .left)) (w .1) (w .2) (w .3)) (c .if2 .came) in (
       search needs,
-      peak-more _ _ _ _ _ _ _ _ _ _ _ _ _ (c .before .before .before .before .tariff-chance .ensures)
-          (c .before .free-chance .ensures) g h (l .inv .1),
+      peak-more _ _ _ _ _ _ _ _ _ _ _ _ _ (c .before .before .before .before .tariff-at .ensures)
+          (c .before .free-at .ensures) g h (l .inv .1),
     )
 
 returns : tie.Need-returns Inv-loop μ-loop
@@ -54,23 +51,7 @@ best-deal-spec =
     loop-holds
     (λ c. search needs)
     (λ c. search needs)
-    (λ c. search needs)
-    (λ c. search needs)
-    (λ c. search needs)
-    (λ c. search needs)
-    (λ c. search needs)
-    (λ c. search needs)
-    (λ c. search needs)
-    (λ c. search needs)
     (λ c κs. search needs)
-    (λ c. search needs)
-    (λ c. search needs)
-    (λ c. search needs)
-    (λ c. search needs)
-    (λ c. search needs)
-    (λ c. search needs)
-    (λ c. search needs)
-    (λ c. search needs)
     (λ c. search needs)
     (λ c. search needs)
     (λ c κs. search needs)

@@ -10,12 +10,12 @@ use Rattle.settler.proofs.choice.next_deal.Statement.{statement}
 use Rattle.settler.proofs.choice.next_deal.Tie as tie
 
 abbrev Inv-loop : tie.InvT-loop
-Inv-loop growers pilots price by-tariff old-free new-free from grower-hours tariff-cap tariff-gain tariff-pay free-cap joint-gain k₀ k =
+Inv-loop growers pilots tariff-cap tariff-gain tariff-pay free-cap joint-gain price by-tariff old-free new-free from grower-hours k₀ k =
     (k ≤ growers) × NoneAsks (ticket growers pilots grower-hours [] tariff-cap tariff-gain tariff-pay free-cap joint-gain) (line price)
     (heldIn by-tariff old-free new-free) from k
 
 abbrev μ-loop : tie.MeasureT-loop
-μ-loop growers pilots price by-tariff old-free new-free from grower-hours tariff-cap tariff-gain tariff-pay free-cap joint-gain k₀ k =
+μ-loop growers pilots tariff-cap tariff-gain tariff-pay free-cap joint-gain price by-tariff old-free new-free from grower-hours k₀ k =
     growers - k
 
 loop-holds : tie.Need-loop-holds Inv-loop μ-loop
@@ -26,26 +26,24 @@ around-requires c κs = let s = c .before .before in (s .pre .0, s .pre .2 (omeg
 
 returns : tie.Need-returns Inv-loop μ-loop
 returns c =
-    let back = c .before .before .before .before .before .before .before .before in
-    let a = back .before .before .before .before .before .before .before .args in
+    let a = c .before .before .before .before .before .before .before .before .before .args in
     rw (c .before .best .given .1) at
-    (asked-in (a .growers) (a .pilots) (back .before .before .before .before .around .result) (a .t3) [] (a .t4) (a .t5) (a .t6) (a .t7)
-    (a .t8) (a .price .now) (a .by-tariff .now) (a .old-free .now) (a .new-free .now)
-    (back .before .before .before .before .around .ensures .0) (c .before .before .before .wanted-deal .result)
-    (c .before .before .before .wanted-deal .ensures))
+    (asked-in (a .growers) (a .pilots) (c .before .before .before .before .before .before .around .result) (a .t3) [] (a .tariff-cap) (a .tariff-gain) (a .tariff-pay) (a .free-cap)
+    (a .joint-gain) (a .price .now) (a .by-tariff .now) (a .old-free .now) (a .new-free .now) (c .before .before .before .before .before .before .around .ensures .0)
+    (c .before .before .before .before .before .terms-of .result) (c .before .before .before .before .agreed-of .result) (c .before .before .before .before .before .terms-of .ensures) (c .before .before .before .before .agreed-of .ensures)
+    (c .before .before .before .wanted-deal .result) (c .before .before .before .wanted-deal .ensures))
 
 loop-again : tie.Need-loop-again Inv-loop μ-loop
 loop-again c =
-    let back = c .before .before .before .before .before .before .before .before in
-    let a = back .before .before .before .before .before .before .args in
-    let e = back .before .before .before .around .ensures in (
+    let a = c .before .before .before .before .before .before .before .before .args in
+    let e = c .before .before .before .before .before .around .ensures in (
       search needs,
       none-asks-more _ _ _ _ _ _ (e .0) (e .1) (e .2)
-          (rw (c .enum-told .given .1) at (asked-in (a .growers) (a .pilots)
-          (back .before .before .before .around .result) (a .t3) [] (a .t4)
-          (a .t5) (a .t6) (a .t7) (a .t8) (a .price .now) (a .by-tariff .now) (a .old-free .now) (a .new-free .now) (e .0)
+          (rw (c .enum-told .given .1) at (asked-in (a .growers) (a .pilots) (c .before .before .before .before .before .around .result) (a .t3) [] (a .tariff-cap)
+          (a .tariff-gain) (a .tariff-pay) (a .free-cap) (a .joint-gain) (a .price .now) (a .by-tariff .now) (a .old-free .now)
+          (a .new-free .now) (e .0) (c .before .before .before .before .terms-of .result) (c .before .before .before .agreed-of .result) (c .before .before .before .before .terms-of .ensures) (c .before .before .before .agreed-of .ensures)
           (c .before .before .wanted-deal .result) (c .before .before .wanted-deal .ensures)))
-          (back .before .before .before .before .before .loop .inv .1),
+          (c .before .before .before .before .before .before .before .loop .inv .1),
     )
 
 returns-2 : tie.Need-returns-2 Inv-loop μ-loop
@@ -59,22 +57,8 @@ next-deal-spec =
     μ-loop
     loop-holds
     around-requires
-    (λ c. search needs)
-    (λ c. search needs)
-    (λ c. search needs)
-    (λ c. search needs)
-    (λ c. search needs)
-    (λ c. search needs)
-    (λ c. search needs)
-    (λ c. search needs)
-    (λ c. search needs)
-    (λ c. search needs)
-    (λ c. search needs)
-    (λ c. search needs)
-    (λ c. search needs)
-    (λ c. search needs)
-    (λ c. search needs)
-    (λ c. search needs)
+    (λ c κs. search needs)
+    (λ c κs. search needs)
     (λ c. search needs)
     (λ c. search needs)
     (λ c κs. search needs)

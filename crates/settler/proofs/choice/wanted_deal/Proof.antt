@@ -12,8 +12,7 @@ returns c = λ d j hj free. absurd (omega arith)
 returns-2 : tie.Need-returns-2
 returns-2 c =
     let a = c .before .before .before .before .args in
-    asks-for-best (a .pilots) (a .hours) (a .tariff-cap) (a .tariff-gain) (a .tariff-pay) (a .free-cap) (a .joint-gain) (a .price .now)
-    (a .by-tariff) (a .old-free) (a .new-free) (c .best-deal .result) (omega arith) (c .best-deal .ensures)
+    asks-for-best (a .pilots) (a .hours) (a .terms) (a .agreed) (a .price .now) (c .best-deal .result) (omega arith) (c .best-deal .ensures)
 
 pub wanted-deal-spec : {M : Type 1} → statement M
 wanted-deal-spec =

@@ -53,7 +53,7 @@ turn-requires c κs =
     (a .joint-gain) (line (l .price)) (heldIn (l .by-tariff) (l .old-free) (l .new-free))
     (c .before .before .before .before .before .before .before .next-deal .result)
     (c .before .before .before .before .before .before .before .next-deal .ensures)) in
-    ((omega (arith, w .grower, fit .growers), omega (arith, w .pilot, fit .pilots)), (fit, (l .inv .0, w)))
+    (fit, (l .inv .0, w))
 
 loop-less : tie.Need-loop-less Inv-loop μ-loop
 loop-less c = c .turn .ensures .less

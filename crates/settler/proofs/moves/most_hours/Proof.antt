@@ -1,10 +1,10 @@
--- `settler::turns::most_hours` meets its contract.
+-- `settler::moves::most_hours` meets its contract.
 -- Assumes nothing.
 use native.Mathlib.Omega.{arith}
 use Rattle.settler.proofs.TurnLaws.{cap-alone}
 use borrow.Author.Needs.{needs}
-use Rattle.settler.proofs.turns.most_hours.Statement.{statement}
-use Rattle.settler.proofs.turns.most_hours.Tie as tie
+use Rattle.settler.proofs.moves.most_hours.Statement.{statement}
+use Rattle.settler.proofs.moves.most_hours.Tie as tie
 
 returns : tie.Need-returns
 returns c =
@@ -12,10 +12,8 @@ returns c =
     let e = c .before .room .ensures in
     record {
       some = c .least .ensures .2 (omega arith) (e .0);
-      room = omega
-          (arith, e .1, c .least .ensures .1, cap-alone (a .pilots) (a .hours) (a .tariff-cap) (a .free-cap) (a .deal) (a .j));
-      free = omega
-          arith;
+      room = omega (arith, e .1, c .least .ensures .1, cap-alone (a .pilots) (a .hours) (a .terms) (a .deal) (a .j));
+      free = omega arith;
     }
 
 pub most-hours-spec : {M : Type 1} → statement M

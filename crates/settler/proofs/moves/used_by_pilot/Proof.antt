@@ -1,4 +1,4 @@
--- `settler::turns::used_by_pilot` meets its contract.
+-- `settler::moves::used_by_pilot` meets its contract.
 -- Assumes nothing.
 use Prim.Native.Nat.{_+_, _*_, _-_, _≤_}
 use mathlib.Core.Path.{_≡_}
@@ -7,8 +7,8 @@ use Rattle.grid.specs.Grid.{at}
 use Rattle.grid.specs.Sum.{sum}
 use Rattle.settler.proofs.Totals.{total-none, total-more, total-end}
 use borrow.Author.Needs.{needs}
-use Rattle.settler.proofs.turns.used_by_pilot.Statement.{statement}
-use Rattle.settler.proofs.turns.used_by_pilot.Tie as tie
+use Rattle.settler.proofs.moves.used_by_pilot.Statement.{statement}
+use Rattle.settler.proofs.moves.used_by_pilot.Tie as tie
 
 abbrev Inv-loop : tie.InvT-loop
 Inv-loop by-tariff old-free new-free j growers total₀ i₀ total i = (i ≤ growers) × (total ≤ 196608 * i) ×

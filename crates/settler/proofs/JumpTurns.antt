@@ -1,0 +1,105 @@
+-- A jump keeps what holds, and leaves less to do.
+-- Assumes nothing.
+use Prim.Native.Nat.{ℕ, _+_, _≤_, _<_}
+use mathlib.Core.Bool.{Bool, true, false}
+use mathlib.Core.Path.{_≡_, refl}
+use mathlib.Core.List.{List, []}
+use native.Mathlib.Nat.{le-refl}
+use native.Mathlib.Decide.{decLt}
+use native.Mathlib.Omega.{arith}
+use Rattle.grid.specs.Grid.{Grid}
+use Rattle.market.specs.Market.{Ticket}
+use Rattle.market.specs.Method.{Held}
+use Rattle.market.specs.Steps as steps
+use Rattle.market.proofs.Jump.{step-jump, jump-falls}
+use Rattle.settler.specs.declared.Jump.{Jump}
+use Rattle.settler.specs.View.{line, ticket, heldIn}
+use Rattle.settler.specs.State.{Live, Turned}
+use Rattle.settler.specs.Jumps.{among, GrowersBear, PilotsBear, RaisedMarked, JumpFrom}
+use Rattle.settler.specs.Moves.{Jumps}
+
+-- Whether a jump is borne does not depend on the growers' hours.
+module _ (n m : ℕ) (growerHours pilotHours : List ℕ) (tariffCap tariffGain tariffPay freeCap jointGain : Grid) (chosen : ℕ → Bool)
+    (price : ℕ → ℕ) (held : Held) where
+  abbrev bare : Ticket
+  bare = ticket n m [] pilotHours tariffCap tariffGain tariffPay freeCap jointGain
+
+  abbrev whole : Ticket
+  whole = ticket n m growerHours pilotHours tariffCap tariffGain tariffPay freeCap jointGain
+
+  grower-any : (x i low : ℕ) → steps.JumpGrower bare chosen x price held i low → steps.JumpGrower whole chosen x price held i low
+  grower-any x i low g = record { old = g .old; new = g .new; standby = g .standby; tariff = g .tariff; free = g .free }
+
+  pub growers-any : (r : ℕ) → GrowersBear bare chosen price held r → GrowersBear whole chosen price held r
+  growers-any r g = λ i hi x some most. let b = g i hi x some most in (b .0, grower-any x i (b .0) (b .1))
+
+  pilot-any : (x j : ℕ) → steps.JumpPilot bare chosen x price held 9001 j → steps.JumpPilot whole chosen x price held 9001 j
+  pilot-any x j p = record { full = p .full; below = p .below; tariff = p .tariff }
+
+  pub pilots-any : (r : ℕ) → PilotsBear bare chosen price held r → PilotsBear whole chosen price held r
+  pilots-any r p = λ j hj e x some most. pilot-any x j (p j hj e x some most)
+
+-- For each grower a bound of what the hours are worth.
+module _ (t : Ticket) (chosen : ℕ → Bool) (price : ℕ → ℕ) (held : Held) (x : ℕ) (some : 0 < x)
+    (growers : GrowersBear t chosen price held x) where
+  abbrev low-if : (i : ℕ) → Dec (i < t .growers) → ℕ
+  low-if i (yes p) = growers i p x some (le-refl x) .0
+  low-if i (no p) = 0
+
+  borne-if : (i : ℕ) → i < t .growers → (d : Dec (i < t .growers)) → steps.JumpGrower t chosen x price held i (low-if i d)
+  borne-if i hi (yes p) = growers i p x some (le-refl x) .1
+  borne-if i hi (no p) = absurd (p hi)
+
+  abbrev low : ℕ → ℕ
+  low i = low-if i (decLt i (t .growers))
+
+  borne : (i : ℕ) → i < t .growers → steps.JumpGrower t chosen x price held i (low i)
+  borne i hi = borne-if i hi (decLt i (t .growers))
+
+module _ (t : Ticket) (prices prices′ : List ℕ) (tariff old new : Grid) (live : Live t prices tariff old new) (j : ℕ) (hj : j < t .pilots)
+    (marks : List Bool) (x : ℕ) (some : 0 < x) (here : among marks j ≡ true)
+    (growers : GrowersBear t (among marks) (line prices) (heldIn tariff old new) x)
+    (pilots : PilotsBear t (among marks) (line prices) (heldIn tariff old new) x)
+    (up : RaisedMarked prices prices′ marks (t .pilots) x) where
+  jump : steps.Jump t (among marks) x (line prices) (line prices′) (heldIn tariff old new)
+      (low t (among marks) (line prices) (heldIn tariff old new) x some growers) 9001
+  jump = record {
+    prices = record {
+      risen = λ l hl e. rw e at (up .price l hl);
+      kept = λ l hl e. omega (arith, rw e at (up .price l hl));
+    };
+    pilot = λ l hl e. pilots l hl e x some (le-refl x);
+    grower = borne t (among marks) (line prices) (heldIn tariff old new) x some growers;
+  }
+
+  below-top : (l : ℕ) → l < t .pilots → (b : Bool) → among marks l ≡ b → line prices′ l ≤ 9001
+  below-top l hl true e = omega (arith, jump .prices .risen l hl e, jump .pilot l hl e .below)
+  below-top l hl false e = omega (arith, jump .prices .kept l hl e, live .low l hl)
+
+  jumped : Turned t prices tariff old new prices′ tariff old new
+  jumped = record {
+    live = record {
+      tariffSquare = live .tariffSquare;
+      oldSquare = live .oldSquare;
+      newSquare = live .newSquare;
+      sixteen = up .sixteen;
+      low = λ l hl. below-top l hl (among marks l) refl;
+      inv = step-jump jump (live .inv);
+    };
+    less = jump-falls jump some j hj here;
+  }
+
+-- the pilot's price jumps
+module _ (n m : ℕ) (growerHours pilotHours : List ℕ) (tariffCap tariffGain tariffPay freeCap jointGain : Grid)
+    (prices prices′ : List ℕ) (tariff old new old′ new′ : Grid) (j : ℕ) (hj : j < m) where
+  pub turn-jump : Live (ticket n m growerHours pilotHours tariffCap tariffGain tariffPay freeCap jointGain) prices tariff old new →
+      Jumps (ticket n m [] pilotHours tariffCap tariffGain tariffPay freeCap jointGain) prices tariff old new prices′ old′ new′ j →
+      Turned (ticket n m growerHours pilotHours tariffCap tariffGain tariffPay freeCap jointGain) prices tariff old new prices′ tariff old′ new′
+  turn-jump live js =
+      rw (js .sameOld, js .sameNew)
+      (jumped (ticket n m growerHours pilotHours tariffCap tariffGain tariffPay freeCap jointGain) prices prices′ tariff old new live j hj
+      (js .jump .pilots) (js .jump .by) (js .some) (js .from .here (js .some))
+      (growers-any n m growerHours pilotHours tariffCap tariffGain tariffPay freeCap jointGain (among (js .jump .pilots)) (line prices)
+      (heldIn tariff old new) (js .jump .by) (js .from .growers))
+      (pilots-any n m growerHours pilotHours tariffCap tariffGain tariffPay freeCap jointGain (among (js .jump .pilots)) (line prices)
+      (heldIn tariff old new) (js .jump .by) (js .from .pilots)) (js .raised))

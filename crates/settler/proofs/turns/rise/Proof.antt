@@ -1,0 +1,46 @@
+-- `settler::turns::rise` meets its contract.
+-- Assumes nothing.
+use mathlib.Core.Path.{refl}
+use mathlib.Core.Logic.{inl, inr}
+use native.Mathlib.Nat.{le-refl}
+use native.Mathlib.Omega.{arith}
+use borrow.Author.Needs.{needs}
+use Rattle.settler.proofs.turns.rise.Statement.{statement}
+use Rattle.settler.proofs.turns.rise.Tie as tie
+
+raise-marked-requires : tie.Need-raise-marked-requires
+raise-marked-requires c κs =
+    let s = c .before .before .before .before .before .before .before in
+    let j = c .before .before .before .jump-from in
+    let some = c .before .before .if1 .taken in
+    let bears = j .ensures .pilots _ (s .pre .0 .2) (j .ensures .here some) _ some (le-refl _) in
+    ((s .pre .0 .1, omega (arith, bears .below)), s .pre .1 .0)
+
+returns : tie.Need-returns
+returns c =
+    let j = c .before .before .before .before .jump-from in
+    inl (record {
+      jump = j .result;
+      some = c .before .before .before .if1 .taken;
+      from = j .ensures;
+      raised = c .raise-marked .ensures;
+      sameOld = refl;
+      sameNew = refl;
+    })
+
+age-requires : tie.Need-age-requires
+age-requires c κs =
+    let s = c .before .before .before .before .before .before .before in
+    ((s .pre .0 .3, s .pre .0 .4, s .pre .0 .0, omega (arith, s .pre .0 .1, s .pre .0 .2)), s .pre .1 .1)
+
+raise-price-requires : tie.Need-raise-price-requires
+raise-price-requires c κs =
+    let s = c .before .before .before .before .before .before .before .before .before in
+    (omega (arith, s .pre .0 .1, s .pre .0 .2), s .pre .1 .0 _ (s .pre .0 .2))
+
+returns-2 : tie.Need-returns-2
+returns-2 c = inr (record { price = c .raise-price .ensures; aged = c .before .before .age .ensures })
+
+pub rise-spec : {M : Type 1} → statement M
+rise-spec =
+    tie.close (tie.spec (λ c κs. search needs) raise-marked-requires returns age-requires raise-price-requires returns-2)
