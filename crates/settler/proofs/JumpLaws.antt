@@ -1,12 +1,12 @@
 -- Jumps: how far growers and pilots bear a rise of several prices, one grower or pilot after another.
 -- Assumes nothing.
-use Prim.Native.Nat.{ℕ, suc, _+_, _*_, _-_, _≤_, _<_}
+use Prim.Native.Nat.{ℕ, _+_, _*_, _-_, _≤_, _<_}
 use mathlib.Core.Bool.{Bool, true, false}
 use mathlib.Core.Path.{_≡_, refl, sym, _∙_}
 use mathlib.Core.List.{List, []}
 use native.Mathlib.Omega.{arith}
 use borrow.Author.Tests.{lt-ltb}
-use lib.ListN.{getD, set, length, length-set}
+use lib.ListN.{set, length, length-set}
 use lib.Seq.{getD-set-same, getD-set-other}
 use Rattle.grid.proofs.Cases.{never, by-index}
 use Rattle.grid.specs.Grid.{Grid}
@@ -83,14 +83,14 @@ module _ (t : Ticket) (chosen : ℕ → Bool) (price : ℕ → ℕ) (held : Held
   pub offers-none : OffersAtMost t chosen price held i 0 1
   offers-none = record { some = omega arith; tariff = λ l h. absurd (omega arith); free = λ l h. absurd (omega arith) }
 
-  pub offers-more : (k top v w top′ : ℕ) → top ≤ top′ → v ≤ top′ → w ≤ top′ → v ≡ chance t price held i Tariff k →
-      (chosen k ≡ false → chance t price held i Free k ≤ w) → OffersAtMost t chosen price held i k top →
+  pub offers-more : (k top here top′ : ℕ) → top ≤ top′ → here ≤ top′ → chance t price held i Tariff k ≤ here →
+      (chosen k ≡ false → chance t price held i Free k ≤ here) → OffersAtMost t chosen price held i k top →
       OffersAtMost t chosen price held i (k + 1) top′
-  offers-more k top v w top′ a b c ev hw o = record {
+  offers-more k top here top′ a b tariff free o = record {
     some = omega (arith, o .some);
     tariff = by-index (λ l. l < k + 1 → chance t price held i Tariff l ≤ top′) k (λ _. omega arith)
         (λ l ne h. omega (arith, o .tariff l (omega arith)));
-    free = by-index (λ l. l < k + 1 → chosen l ≡ false → chance t price held i Free l ≤ top′) k (λ _ m. omega (arith, hw m))
+    free = by-index (λ l. l < k + 1 → chosen l ≡ false → chance t price held i Free l ≤ top′) k (λ _ m. omega (arith, free m))
         (λ l ne h m. omega (arith, o .free l (omega arith) m));
   }
 
@@ -147,17 +147,18 @@ module _ (n m : ℕ) (tariffCap tariffGain tariffPay freeCap jointGain tariff ol
   some growerHours pilotHours = ticket n m growerHours pilotHours tariffCap tariffGain tariffPay freeCap jointGain
 
   pub grower-in : (i r : ℕ) →
-      GrowerBears (aloneIn m 0 (termsIn tariffCap tariffGain tariffPay freeCap jointGain i)) chosen price (heldBy (agreedIn tariff old new i))
-      0 r → GrowerBears (some [] []) chosen price (heldIn tariff old new) i r
+      GrowerBears (aloneIn m 0 (termsIn tariffCap tariffGain tariffPay freeCap jointGain i)) chosen price
+      (heldBy (agreedIn tariff old new i)) 0 r → GrowerBears (some [] []) chosen price (heldIn tariff old new) i r
   grower-in i r b = λ x pos le.
       let g = b x pos le in (
         g .0,
         record { old = g .1 .old; new = g .1 .new; standby = g .1 .standby; tariff = g .1 .tariff; free = g .1 .free },
       )
 
-  pub growers-any : (growerHours pilotHours : List ℕ) (r : ℕ) → GrowersBear (some [] []) chosen price (heldIn tariff old new) r →
-      GrowersBear (some growerHours pilotHours) chosen price (heldIn tariff old new) r
-  growers-any growerHours pilotHours r b = λ i h x pos le.
+  pub growers-any : (growerHours pilotHours growerHours′ pilotHours′ : List ℕ) (r : ℕ) →
+      GrowersBear (some growerHours pilotHours) chosen price (heldIn tariff old new) r →
+      GrowersBear (some growerHours′ pilotHours′) chosen price (heldIn tariff old new) r
+  growers-any growerHours pilotHours growerHours′ pilotHours′ r b = λ i h x pos le.
       let g = b i h x pos le in (
         g .0,
         record { old = g .1 .old; new = g .1 .new; standby = g .1 .standby; tariff = g .1 .tariff; free = g .1 .free },
@@ -235,7 +236,7 @@ module _ (n m : ℕ) (pilotHours : List ℕ) (tariffCap tariffGain tariffPay fre
   jump-made r s by here a b p g = record {
     here = λ _. here;
     growers = λ i h x pos le.
-        growers-any n m tariffCap tariffGain tariffPay freeCap jointGain tariff old new (among marks) price [] pilotHours s g i h x pos
+        growers-any n m tariffCap tariffGain tariffPay freeCap jointGain tariff old new (among marks) price [] [] [] pilotHours s g i h x pos
         (omega arith);
     pilots = λ l h m x pos le.
         let w = p l h m x pos (omega arith) in record { full = w .full; below = w .below; tariff = w .tariff };

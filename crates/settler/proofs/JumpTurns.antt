@@ -17,8 +17,9 @@ use Rattle.settler.specs.View.{line, ticket, heldIn}
 use Rattle.settler.specs.State.{Live, Turned}
 use Rattle.settler.specs.Jumps.{among, GrowersBear, PilotsBear, RaisedMarked, JumpFrom}
 use Rattle.settler.specs.Moves.{Jumps}
+use Rattle.settler.proofs.JumpLaws.{growers-any}
 
--- Whether a jump is borne does not depend on the growers' hours.
+-- What pilots bear does not depend on the growers' hours.
 module _ (n m : ℕ) (growerHours pilotHours : List ℕ) (tariffCap tariffGain tariffPay freeCap jointGain : Grid) (chosen : ℕ → Bool)
     (price : ℕ → ℕ) (held : Held) where
   abbrev bare : Ticket
@@ -26,12 +27,6 @@ module _ (n m : ℕ) (growerHours pilotHours : List ℕ) (tariffCap tariffGain t
 
   abbrev whole : Ticket
   whole = ticket n m growerHours pilotHours tariffCap tariffGain tariffPay freeCap jointGain
-
-  grower-any : (x i low : ℕ) → steps.JumpGrower bare chosen x price held i low → steps.JumpGrower whole chosen x price held i low
-  grower-any x i low g = record { old = g .old; new = g .new; standby = g .standby; tariff = g .tariff; free = g .free }
-
-  pub growers-any : (r : ℕ) → GrowersBear bare chosen price held r → GrowersBear whole chosen price held r
-  growers-any r g = λ i hi x some most. let b = g i hi x some most in (b .0, grower-any x i (b .0) (b .1))
 
   pilot-any : (x j : ℕ) → steps.JumpPilot bare chosen x price held 9001 j → steps.JumpPilot whole chosen x price held 9001 j
   pilot-any x j p = record { full = p .full; below = p .below; tariff = p .tariff }
@@ -99,7 +94,7 @@ module _ (n m : ℕ) (growerHours pilotHours : List ℕ) (tariffCap tariffGain t
       rw (js .sameOld, js .sameNew)
       (jumped (ticket n m growerHours pilotHours tariffCap tariffGain tariffPay freeCap jointGain) prices prices′ tariff old new live j hj
       (js .jump .pilots) (js .jump .by) (js .some) (js .from .here (js .some))
-      (growers-any n m growerHours pilotHours tariffCap tariffGain tariffPay freeCap jointGain (among (js .jump .pilots)) (line prices)
-      (heldIn tariff old new) (js .jump .by) (js .from .growers))
+      (growers-any n m tariffCap tariffGain tariffPay freeCap jointGain tariff old new (among (js .jump .pilots)) (line prices) [] pilotHours
+      growerHours pilotHours (js .jump .by) (js .from .growers))
       (pilots-any n m growerHours pilotHours tariffCap tariffGain tariffPay freeCap jointGain (among (js .jump .pilots)) (line prices)
       (heldIn tariff old new) (js .jump .by) (js .from .pilots)) (js .raised))

@@ -4,14 +4,17 @@
 mod changes;
 mod choice;
 mod finish;
+mod growers_bear;
 mod jumps;
 mod late;
 mod listing;
 mod moves;
 mod numbers;
 mod offers;
+mod pilots_bear;
 mod rows;
 mod squares;
+mod ties;
 mod turns;
 
 ghost use mathlib.Core.Path.{_≡_};
