@@ -1,10 +1,10 @@
 -- Filling rows, and reading the quantities of a list.
 -- Assumes nothing.
-use Prim.Native.Nat.{ℕ, _+_, _<_}
+use Prim.Native.Nat.{ℕ, _+_, _<_, _≤_}
 use mathlib.Core.Path.{_≡_, _∙_}
 use mathlib.Core.List.{List}
 use native.Mathlib.Omega.{arith}
-use lib.ListN.{getD, set, length-set}
+use lib.ListN.{getD, length, set, length-set}
 use lib.Seq.{getD-set-same, getD-set-other}
 use Rattle.grid.specs.Grid.{Grid, Row}
 use Rattle.grid.specs.Fill.{Filled}
@@ -37,6 +37,26 @@ module _ (val : ℕ → ℕ) (r : List ℕ) where
     where
       same : getD (set r i v) i 0 ≡ v
       same = getD-set-same r i v 0 (omega (arith, p .row .long))
+
+-- the first i of sixteen parties, or of sixteen rows, are made
+pub record Made {A : Type 0} (none : A) (val : ℕ → A) (i : ℕ) (q : List A) : Type 0 where
+  pub long : length q ≡ 16
+  pub made : (k : ℕ) → k < i → getD q k none ≡ val k
+
+module _ {A : Type 0} (none : A) (val : ℕ → A) (q : List A) where
+  pub made-start : length q ≡ 16 → Made none val 0 q
+  made-start l = record { long = l; made = λ k h. absurd (omega arith) }
+
+  pub made-put : (i : ℕ) (v : A) → i < 16 → v ≡ val i → Made none val i q → Made none val (i + 1) (set q i v)
+  made-put i v hi e p = record {
+    long = length-set q i v ∙ p .long;
+    made = by-index (λ k. k < i + 1 → getD (set q i v) k none ≡ val k) i
+        (λ _. getD-set-same q i v none (omega (arith, p .long)) ∙ e)
+        (λ k n h. getD-set-other q i k v none n ∙ p .made k (omega arith));
+  }
+
+  pub made-all : (i : ℕ) → 16 ≤ i → Made none val i q → (k : ℕ) → k < 16 → getD q k none ≡ val k
+  made-all i h p k hk = p .made k (omega arith)
 
 -- a number that stands where a quantity of a pair stands is that quantity
 pub quantity-at : (q : Quantity) (list : List ℕ) (n m i j p v : ℕ) → n ≡ growersOf list → m ≡ pilotsOf list →

@@ -3,24 +3,25 @@
 use Prim.Native.Nat.{ℕ, zero, suc, _+_, _*_, _<_, min}
 use mathlib.Core.Path.{_≡_, refl, sym, _∙_}
 use mathlib.Core.Logic.{⊎-elim}
-use mathlib.Core.Bool.{Bool, true, false, cond}
+use mathlib.Core.Bool.{Bool, true, false, cond, _||_}
 use mathlib.Core.List.{List, []}
 use native.Mathlib.Omega.{arith}
 use lib.Dec.{ltb, eqb}
 use lib.ListN.{getD, set, length, List·getD-eq-default}
 use lib.Seq.{getD-set-same, getD-set-other, set-out}
 use borrow.Author.Tests.{eq-eqb, ne-eqb}
-use Rattle.grid.specs.Grid.{Grid, at}
+use Rattle.grid.specs.Grid.{Grid}
 use Rattle.grid.proofs.Cases.{eq-or-ne, lt-or-le}
 use Rattle.grid.proofs.Places.{at-place, cell-place}
 use Rattle.market.specs.declared.Deal.{Deal}
 use Rattle.market.specs.declared.Deal.the-variants.{Tariff, Free}
+use Rattle.marker.specs.declared.PairRow.{PairRow}
 use Rattle.marker.specs.declared.Party.{Party}
 use Rattle.marker.specs.declared.Spare.{Spare}
 use Rattle.marker.specs.declared.Spare.the-variants.{Nothing}
-use Rattle.marker.specs.View.{byDeal, growersOf, pilotsOf, pilotHoursOf}
-use Rattle.marker.specs.Verdict.{pairTest, idleTest, blocksTest, countIn, cheapestOf, besides, dealAt}
-use Rattle.marker.specs.Tables.{FilledRow, lines, usedIn, overIn, besideOwn, spareIn, wrongIn, wrongPairIn, wrongDealIn}
+use Rattle.marker.specs.View.{growersOf, pilotsOf, pilotHoursOf}
+use Rattle.marker.specs.Verdict.{countIn, cheapestOf, besides, dealAt}
+use Rattle.marker.specs.Tables.{FilledRow, lines, usedIn, overIn, besideOwn, spareIn, noPairs, nobody, pairTestIn, wrongPairIn, idleIn, blocksIn, wrongIn, wrongDealIn}
 use Rattle.marker.proofs.Spares.{cheapest-same}
 
 -- a row whose number at y is made 0; beyond its end it has zeros anyway
@@ -46,33 +47,30 @@ pub spare-there : (p : Party) (k d y : ℕ) → d < 2 → (s r : Spare) (tariff 
 spare-there p k d y h s r tariff free es et ef er =
     er ∙ rw (es, et, ef) (cheapest-same _ _ _ _ _ k (λ e l _. beside-lines (p .tariff) (p .free) d y h e l) (λ e l _. refl))
 
-lines-at : (tariff free : List ℕ) (j : ℕ) (d : Deal) → byDeal (getD tariff j 0) (getD free j 0) d ≡ lines tariff free d j
-lines-at tariff free j Tariff = refl
-lines-at tariff free j Free = refl
-
 -- a deal at fault, by what its tests gave
-module _ (g p : Party) (tariffCap freeCap joint n m i j : ℕ) (d : Deal) (hours cap : ℕ)
-    (eh : hours ≡ byDeal (getD (g .tariff) j 0) (getD (g .free) j 0) d) (ec : cap ≡ byDeal tariffCap freeCap d)
-    (b : Bool) (eb : b ≡ idleTest hours cap (g .unused) (p .unused)) where
-  pub wrong-idle : b ≡ true → true ≡ wrongIn g p tariffCap freeCap joint n m i j d
-  wrong-idle h = rw (← lines-at (g .tariff) (g .free) j d, ← eh, ← ec, ← eb, h)
+first-holds : (a b r : Bool) → r ≡ a → r ≡ true → r ≡ (a || b)
+first-holds a b r e h = rw (← e, h)
 
-  pub wrong-blocks : b ≡ false → (e : Deal) (ofGrower ofPilot : Spare) (r : Bool) → e ≡ d → ofGrower ≡ spareIn g m d j →
-      ofPilot ≡ spareIn p n d i → r ≡ blocksTest e hours cap ofGrower ofPilot (getD (g .earned) j 0) (getD (p .earned) i 0) joint →
-      r ≡ wrongIn g p tariffCap freeCap joint n m i j d
-  wrong-blocks h e ofGrower ofPilot r ee eg ep er = er ∙ rw (← lines-at (g .tariff) (g .free) j d, ← eh, ← ec, ← eb, h, ee, eg, ep)
+second-decides : (a b r s : Bool) → r ≡ a → r ≡ false → s ≡ b → s ≡ (a || b)
+second-decides a b r s e h f = rw (← e, h) f
+
+module _ (g p : Party) (row : PairRow) (n m i j : ℕ) (d : Deal) (b : Bool) (eb : b ≡ idleIn row (g .unused) (p .unused) j d) where
+  pub wrong-idle : b ≡ true → b ≡ wrongIn g p row n m i j d
+  wrong-idle h = first-holds (idleIn row (g .unused) (p .unused) j d) (blocksIn g p row n m i j d) b eb h
+
+  pub wrong-blocks : b ≡ false → (r : Bool) → r ≡ blocksIn g p row n m i j d → r ≡ wrongIn g p row n m i j d
+  wrong-blocks h r e = second-decides (idleIn row (g .unused) (p .unused) j d) (blocksIn g p row n m i j d) b r eb h e
 
 -- the tests at the place of a pair and of a deal
-pub pair-there : (tariffCap freeCap joint tariffHours freeHours pay : Grid) (m i j : ℕ) (r : Bool) → j < m →
-    r ≡ pairTest (at tariffHours i j) (at tariffCap i j) (at freeHours i j) (at freeCap i j) (at pay i j) (at joint i j) →
-    wrongPairIn tariffCap freeCap joint tariffHours freeHours pay m (i * m + j) ≡ r
-pair-there tariffCap freeCap joint tariffHours freeHours pay m i j r h e = rw (cell-place m i j h .0, cell-place m i j h .1) (sym e)
+pub pair-there : (rows : List PairRow) (m i j : ℕ) (r : Bool) → j < m → r ≡ pairTestIn (getD rows i noPairs) j →
+    wrongPairIn rows m (i * m + j) ≡ r
+pair-there rows m i j r h e = rw (cell-place m i j h .0, cell-place m i j h .1) (sym e)
 
-pub deal-there : (growers pilots : ℕ → Party) (tariffCap freeCap joint : Grid) (n m i j d : ℕ) (r : Bool) → j < m → d < 2 →
-    r ≡ wrongIn (growers i) (pilots j) (at tariffCap i j) (at freeCap i j) (at joint i j) n m i j (dealAt d) →
-    wrongDealIn growers pilots tariffCap freeCap joint n m (2 * (i * m + j) + d) ≡ r
-deal-there growers pilots tariffCap freeCap joint n m i j d r hj hd e =
-    at-place (λ i j d. wrongIn (growers i) (pilots j) (at tariffCap i j) (at freeCap i j) (at joint i j) n m i j (dealAt d)) m i j d hj hd
+pub deal-there : (growers pilots : List Party) (rows : List PairRow) (n m i j d : ℕ) (r : Bool) → j < m → d < 2 →
+    r ≡ wrongIn (getD growers i nobody) (getD pilots j nobody) (getD rows i noPairs) n m i j (dealAt d) →
+    wrongDealIn growers pilots rows n m (2 * (i * m + j) + d) ≡ r
+deal-there growers pilots rows n m i j d r hj hd e =
+    at-place (λ i j d. wrongIn (getD growers i nobody) (getD pilots j nobody) (getD rows i noPairs) n m i j (dealAt d)) m i j d hj hd
     ∙ sym e
 
 pub over-there : (hours : List ℕ) (tariff free : Grid) (k i a b : ℕ) → a ≡ getD hours i 0 →

@@ -10,17 +10,19 @@ use Rattle.grid.specs.Grid.{Grid, at}
 use Rattle.grid.specs.Fill.{Filled}
 use Rattle.grid.specs.First.{first}
 use Rattle.grid.proofs.Sums.{sum-same}
-use Rattle.grid.proofs.Places.{within}
+use Rattle.grid.proofs.Places.{inside, within}
 use Rattle.market.specs.declared.Deal.{Deal}
 use Rattle.market.specs.declared.Deal.the-variants.{Tariff, Free}
 use Rattle.market.specs.Market.{Ticket, Settlement, cap, usedByPilot, earnedByGrower, earnedByPilot}
 use Rattle.market.specs.Same.{SameTicket, SameSettlement}
+use Rattle.marker.specs.declared.PairRow.{PairRow}
+use Rattle.marker.specs.declared.Party.{Party}
 use Rattle.marker.specs.View.{byDeal, growersOf, pilotsOf, quantityOf, growerHoursOf, pilotHoursOf, ticketOf, settlementOf}
-use Rattle.marker.specs.Verdict.{pilotOver, freeOfPilot, wrongDeal, dealAt, dealVerdict, dealFaultAt, dealVerdictAt}
+use Rattle.marker.specs.Verdict.{pilotOver, freeOfPilot, wrongDeal, dealAt, pairVerdict, pairFaultAt, dealVerdict, dealFaultAt, dealVerdictAt}
 use Rattle.marker.specs.declared.Quantity.the-variants.{TariffCap, TariffGain, TariffPay, FreeCap, JointGain, TariffHours}
 use Rattle.marker.specs.declared.Quantity.the-variants.{FreeHours, Pay}
 use Rattle.marker.specs.Tables.{FilledRow, ticketIn, settlementIn, lines, usedIn, overIn, unusedIn, partyIn, wrongIn, wrongDealIn}
-use Rattle.marker.specs.Tables.{verdictOn, verdictIn}
+use Rattle.marker.specs.Tables.{noPairs, nobody, pairsIn, pairTestIn, wrongPairIn, pairVerdictIn, verdictOn, verdictIn}
 use Rattle.marker.proofs.Spares.{spare-same, test-same}
 use Rattle.marker.proofs.Walks.{first-same}
 
@@ -35,6 +37,15 @@ module _ (n m : ℕ) (growerHours pilotHours : List ℕ) (tariffCap tariffGain t
 
   abbrev x : Settlement
   x = settlementIn tariffHours freeHours pay
+
+  module _ (rows : List PairRow) (er : (i : ℕ) → i < 16 → getD rows i noPairs ≡ pairsIn tariffCap freeCap joint tariffHours freeHours pay i) where
+    pub first-pair : first (wrongPairIn rows m) (n * m) ≡ first (pairFaultAt t x) (n * m)
+    first-pair = first-same _ _ (n * m)
+        (λ p h. let w = inside n m p h in ap (λ (r : PairRow). pairTestIn r (p % m)) (er (p / m) (omega arith)))
+
+    pub pair-verdict-in : (p : ℕ) → p < n * m → pairVerdictIn (getD rows (p / m) noPairs) (p / m) (p % m) ≡ pairVerdict t x (p / m) (p % m)
+    pair-verdict-in p h =
+        let w = inside n m p h in ap (λ (r : PairRow). pairVerdictIn r (p / m) (p % m)) (er (p / m) (omega arith))
 
   module _ (pilotTariff pilotFree : Grid) (tt : Turned tariffHours pilotTariff) (tf : Turned freeHours pilotFree) where
     used-by-pilot : (j : ℕ) → j < m → usedIn (getD pilotTariff j []) (getD pilotFree j []) n ≡ usedByPilot t (x .hours) j
@@ -58,13 +69,14 @@ module _ (n m : ℕ) (growerHours pilotHours : List ℕ) (tariffCap tariffGain t
       cap-at Tariff i j = refl
       cap-at Free i j = refl
 
-      verdict-on : (count i j : ℕ) (d : Deal) → i < n → j < m →
-          verdictOn growerUnused pilotUnused tariffCap freeCap tariffHours freeHours count i j d ≡ dealVerdict t x count i j d
-      verdict-on count i j d hi hj = rw (hours-at d i j, cap-at d i j, ug .inner i hi, unused-of-pilot pilotUnused up j hj)
+      module _ (rows : List PairRow) (er : (i : ℕ) → i < 16 → getD rows i noPairs ≡ pairsIn tariffCap freeCap joint tariffHours freeHours pay i) where
+        verdict-on : (count i j : ℕ) (d : Deal) → i < n → j < m →
+            verdictOn growerUnused pilotUnused rows count i j d ≡ dealVerdict t x count i j d
+        verdict-on count i j d hi hj =
+            rw (er i (omega arith)) (rw (hours-at d i j, cap-at d i j, ug .inner i hi, unused-of-pilot pilotUnused up j hj))
 
-      pub verdict-in : (p : ℕ) → p < 2 * (n * m) →
-          verdictIn growerUnused pilotUnused tariffCap freeCap tariffHours freeHours m p ≡ dealVerdictAt t x p
-      verdict-in p h = let w = within n m p h in verdict-on (p + 1) (p / 2 / m) (p / 2 % m) (dealAt (p % 2)) (w .grower) (w .pilot)
+        pub verdict-in : (p : ℕ) → p < 2 * (n * m) → verdictIn growerUnused pilotUnused rows m p ≡ dealVerdictAt t x p
+        verdict-in p h = let w = within n m p h in verdict-on (p + 1) (p / 2 / m) (p / 2 % m) (dealAt (p % 2)) (w .grower) (w .pilot)
 
       module _ (share pilotEarned pilotShare : Grid) (sg : Filled (λ i j. at joint i j - at pay i j) 16 16 share)
           (te : Turned tariffPay pilotEarned) (tp : Turned pay pilotShare) where
@@ -87,11 +99,11 @@ module _ (n m : ℕ) (growerHours pilotHours : List ℕ) (tariffCap tariffGain t
 
         wrong-at : (d : Deal) (i j : ℕ) → i < n → j < m →
             wrongIn (partyIn growerUnused tariffHours freeHours tariffGain share i)
-            (partyIn pilotUnused pilotTariff pilotFree pilotEarned pilotShare j) (at tariffCap i j) (at freeCap i j)
-            (at joint i j) n m i j d
+            (partyIn pilotUnused pilotTariff pilotFree pilotEarned pilotShare j)
+            (pairsIn tariffCap freeCap joint tariffHours freeHours pay i) n m i j d
             ≡ wrongDeal t x d i j
         wrong-at d i j hi hj =
-            test-same d _ _ _ _ _ _ _ _ _ _ _ _ _ _ _ _ _ _ (lines-hours d i j) (cap-at d i j) (ug .inner i hi)
+            test-same d _ _ _ _ _ _ _ _ _ _ _ _ _ _ _ _ _ _ (hours-at d i j) (cap-at d i j) (ug .inner i hi)
             (unused-of-pilot pilotUnused up j hj)
             (spare-same _ _ 0 0 m m _ _ _ _ d j (ug .inner i hi) refl refl (λ e l hl. lines-hours e i l)
             (λ e l hl. grower-earned e i l hi hl))
@@ -99,11 +111,23 @@ module _ (n m : ℕ) (growerHours pilotHours : List ℕ) (tariffCap tariffGain t
             (λ e k hk. pilot-earned e k j hk hj))
             refl (te .inner j i (omega arith) (omega arith)) refl
 
-        pub first-deal : first (wrongDealIn (partyIn growerUnused tariffHours freeHours tariffGain share)
-            (partyIn pilotUnused pilotTariff pilotFree pilotEarned pilotShare) tariffCap freeCap joint n m) (2 * (n * m))
-            ≡ first (dealFaultAt t x) (2 * (n * m))
-        first-deal = first-same _ _ (2 * (n * m))
-            (λ p h. let w = within n m p h in wrong-at (dealAt (p % 2)) (p / 2 / m) (p / 2 % m) (w .grower) (w .pilot))
+        module _ (growers pilots : List Party) (rows : List PairRow)
+            (eg : (i : ℕ) → i < 16 → getD growers i nobody ≡ partyIn growerUnused tariffHours freeHours tariffGain share i)
+            (ep : (j : ℕ) → j < 16 → getD pilots j nobody ≡ partyIn pilotUnused pilotTariff pilotFree pilotEarned pilotShare j)
+            (er : (i : ℕ) → i < 16 → getD rows i noPairs ≡ pairsIn tariffCap freeCap joint tariffHours freeHours pay i) where
+          wrong-made : (d : Deal) (i j : ℕ) → i < n → j < m →
+              wrongIn (getD growers i nobody) (getD pilots j nobody) (getD rows i noPairs) n m i j d ≡ wrongDeal t x d i j
+          wrong-made d i j hi hj =
+              ap (λ (g : Party). wrongIn g (getD pilots j nobody) (getD rows i noPairs) n m i j d) (eg i (omega arith))
+              ∙ ap (λ (p : Party). wrongIn (partyIn growerUnused tariffHours freeHours tariffGain share i) p (getD rows i noPairs) n m i j d)
+              (ep j (omega arith))
+              ∙ ap (λ (r : PairRow). wrongIn (partyIn growerUnused tariffHours freeHours tariffGain share i)
+              (partyIn pilotUnused pilotTariff pilotFree pilotEarned pilotShare j) r n m i j d) (er i (omega arith))
+              ∙ wrong-at d i j hi hj
+
+          pub first-deal : first (wrongDealIn growers pilots rows n m) (2 * (n * m)) ≡ first (dealFaultAt t x) (2 * (n * m))
+          first-deal = first-same _ _ (2 * (n * m))
+              (λ p h. let w = within n m p h in wrong-made (dealAt (p % 2)) (p / 2 / m) (p / 2 % m) (w .grower) (w .pilot))
 
 -- the tables of two lists are their ticket and their settlement, as far as these reach
 module _ (list : List ℕ) (n m : ℕ) (en : n ≡ growersOf list) (em : m ≡ pilotsOf list) (hn : n ≤ 16) (hm : m ≤ 16) where

@@ -2,14 +2,15 @@
 ghost use mathlib.Core.Path.{_≡_};
 ghost use mathlib.Core.Bool.{cond, _&&_};
 ghost use Prim.Native.Nat.{_+_, _*_, _/_, _%_, _<_, _≤_};
-ghost use Rattle.grid.specs.Grid.{at};
 ghost use Rattle.grid.specs.First.{first};
 ghost use Rattle.marker.specs.View.{byDeal};
 ghost use Rattle.marker.specs.Verdict.{idleTest, below, blocksTest, dealAt};
 ghost use Rattle.marker.specs.Verdict.{dealFaultAt};
 ghost use Rattle.marker.specs.Tables.{ticketIn, settlementIn};
-ghost use Rattle.marker.specs.Tables.{partyIn, wrongIn, wrongDealIn, verdictIn};
+ghost use Rattle.marker.specs.Tables.{hoursIn, capIn, idleIn, blocksIn};
+ghost use Rattle.marker.specs.Tables.{wrongIn, wrongDealIn, verdictIn};
 ghost use Rattle.marker.specs.declared.Verdict.the-variants as Verdict;
+use crate::PairRow;
 use crate::Party;
 use crate::Spare;
 use crate::Verdict;
@@ -18,6 +19,8 @@ use crate::cheap_spares::both_below;
 use crate::cheap_spares::cheapest_spare;
 use crate::pair_faults::pairs;
 use crate::party_hours::unused;
+use crate::rows::pair_rows;
+use crate::rows::parties;
 use crate::tables::grower_share;
 use crate::tables::turned;
 use market::Deal;
@@ -59,13 +62,33 @@ fn of_deal(d: usize, tariff: u16, free: u16) -> u16
     if d == 0 { tariff } else { free }
 }
 
-// The deal d of grower i and pilot j is idle or blocks.
-fn wrong_deal(
+fn hours_in(row: PairRow, j: usize, d: usize) -> u16
+    requires { ⌜ j < 16 ⌝ }
+    ensures { λ r. ⌜ r ≡ hoursIn row j (dealAt d) ⌝ }
+{
+    of_deal(d, row.tariff_hours[j], row.free_hours[j])
+}
+
+fn cap_in(row: PairRow, j: usize, d: usize) -> u16
+    requires { ⌜ j < 16 ⌝ }
+    ensures { λ r. ⌜ r ≡ capIn row j (dealAt d) ⌝ }
+{
+    of_deal(d, row.tariff_cap[j], row.free_cap[j])
+}
+
+// The deal d of a grower with pilot j is idle.
+fn idle_in(row: PairRow, of_grower: u16, of_pilot: u16, j: usize, d: usize) -> bool
+    requires { ⌜ j < 16 ⌝ }
+    ensures { λ r. ⌜ r ≡ idleIn row «of_grower» «of_pilot» j (dealAt d) ⌝ }
+{
+    idle(hours_in(row, j, d), cap_in(row, j, d), of_grower, of_pilot)
+}
+
+// The deal d of grower i and pilot j blocks.
+fn blocks_in(
     grower: Party,
     pilot: Party,
-    tariff_cap: u16,
-    free_cap: u16,
-    joint: u16,
+    row: PairRow,
     n: usize,
     m: usize,
     i: usize,
@@ -73,25 +96,35 @@ fn wrong_deal(
     d: usize,
 ) -> bool
     requires { ⌜ (n ≤ 16) × (m ≤ 16) × (i < 16) × (j < 16) × (d < 2) ⌝ }
-    ensures { λ r. ⌜ r ≡ wrongIn grower pilot «tariff_cap» «free_cap» joint n m i j (dealAt d) ⌝ }
+    ensures { λ r. ⌜ r ≡ blocksIn grower pilot row n m i j (dealAt d) ⌝ }
 {
-    let hours = of_deal(d, grower.tariff[j], grower.free[j]);
-    let cap = of_deal(d, tariff_cap, free_cap);
-    if idle(hours, cap, grower.unused, pilot.unused) {
-        return true;
-    }
-    let of_grower = cheapest_spare(grower, m, d, j);
-    let of_pilot = cheapest_spare(pilot, n, d, i);
     blocks(
         deal_of(d),
-        hours,
-        cap,
-        of_grower,
-        of_pilot,
+        hours_in(row, j, d),
+        cap_in(row, j, d),
+        cheapest_spare(grower, m, d, j),
+        cheapest_spare(pilot, n, d, i),
         grower.earned[j],
         pilot.earned[i],
-        joint,
+        row.joint[j],
     )
+}
+
+// The deal d of grower i and pilot j is idle or blocks.
+fn wrong_deal(
+    grower: Party,
+    pilot: Party,
+    row: PairRow,
+    n: usize,
+    m: usize,
+    i: usize,
+    j: usize,
+    d: usize,
+) -> bool
+    requires { ⌜ (n ≤ 16) × (m ≤ 16) × (i < 16) × (j < 16) × (d < 2) ⌝ }
+    ensures { λ r. ⌜ r ≡ wrongIn grower pilot row n m i j (dealAt d) ⌝ }
+{
+    idle_in(row, grower.unused, pilot.unused, j, d) || blocks_in(grower, pilot, row, n, m, i, j, d)
 }
 
 // The place of a deal. The product is proved to fit here, once.
@@ -102,60 +135,25 @@ fn deal_place(n: usize, m: usize, i: usize, j: usize, d: usize) -> usize
     2 * (i * m + j) + d
 }
 
-// The last walk: the first deal that is idle or blocks. Growers' squares are growers by pilots, pilots' are turned.
+// The last walk: the first deal that is idle or blocks.
 fn first_wrong_deal(
-    tariff_cap: [[u16; 16]; 16],
-    free_cap: [[u16; 16]; 16],
-    joint: [[u16; 16]; 16],
-    grower_unused: [u16; 16],
-    grower_tariff: [[u16; 16]; 16],
-    grower_free: [[u16; 16]; 16],
-    gain: [[u16; 16]; 16],
-    share: [[u16; 16]; 16],
-    pilot_unused: [u16; 16],
-    pilot_tariff: [[u16; 16]; 16],
-    pilot_free: [[u16; 16]; 16],
-    pay: [[u16; 16]; 16],
-    pilot_share: [[u16; 16]; 16],
+    growers: [Party; 16],
+    pilots: [Party; 16],
+    rows: [PairRow; 16],
     n: usize,
     m: usize,
 ) -> usize
     requires { ⌜ (n ≤ 16) × (m ≤ 16) ⌝ }
-    ensures { λ r. ⌜ r ≡ first (wrongDealIn
-        (partyIn «grower_unused» «grower_tariff» «grower_free» gain share)
-        (partyIn «pilot_unused» «pilot_tariff» «pilot_free» pay «pilot_share»)
-        «tariff_cap» «free_cap» joint n m) (2 * (n * m)) ⌝ }
+    ensures { λ r. ⌜ r ≡ first (wrongDealIn growers pilots rows n m) (2 * (n * m)) ⌝ }
 {
     let mut place = 2 * pairs(n, m);
     'search: for i in 0..n {
+        let grower = growers[i];
+        let row = rows[i];
         for j in 0..m {
+            let pilot = pilots[j];
             for d in 0..2usize {
-                let grower = Party {
-                    unused: grower_unused[i],
-                    tariff: grower_tariff[i],
-                    free: grower_free[i],
-                    earned: gain[i],
-                    share: share[i],
-                };
-                let pilot = Party {
-                    unused: pilot_unused[j],
-                    tariff: pilot_tariff[j],
-                    free: pilot_free[j],
-                    earned: pay[j],
-                    share: pilot_share[j],
-                };
-                if wrong_deal(
-                    grower,
-                    pilot,
-                    tariff_cap[i][j],
-                    free_cap[i][j],
-                    joint[i][j],
-                    n,
-                    m,
-                    i,
-                    j,
-                    d,
-                ) {
+                if wrong_deal(grower, pilot, row, n, m, i, j, d) {
                     place = deal_place(n, m, i, j, d);
                     break 'search;
                 }
@@ -192,23 +190,16 @@ pub(crate) fn first_fault(
     let share = grower_share(joint, pay);
     let grower_unused = unused(grower_hours, tariff_hours, free_hours, n, m);
     let pilot_unused = unused(pilot_hours, pilot_tariff, pilot_free, m, n);
-    first_wrong_deal(
-        tariff_cap,
-        free_cap,
-        joint,
-        grower_unused,
-        tariff_hours,
-        free_hours,
-        tariff_gain,
-        share,
+    let growers = parties(grower_unused, tariff_hours, free_hours, tariff_gain, share);
+    let pilots = parties(
         pilot_unused,
         pilot_tariff,
         pilot_free,
         pilot_earned,
         pilot_share,
-        n,
-        m,
-    )
+    );
+    let rows = pair_rows(tariff_cap, free_cap, joint, tariff_hours, free_hours, pay);
+    first_wrong_deal(growers, pilots, rows, n, m)
 }
 
 fn deal_verdict(is_idle: bool, i: usize, j: usize, deal: Deal, count: usize) -> Verdict
@@ -234,22 +225,18 @@ fn deal_verdict(is_idle: bool, i: usize, j: usize, deal: Deal, count: usize) -> 
 pub(crate) fn verdict_at(
     grower_unused: [u16; 16],
     pilot_unused: [u16; 16],
-    tariff_cap: [[u16; 16]; 16],
-    free_cap: [[u16; 16]; 16],
-    tariff_hours: [[u16; 16]; 16],
-    free_hours: [[u16; 16]; 16],
+    rows: [PairRow; 16],
     n: usize,
     m: usize,
     place: usize,
 ) -> Verdict
     requires { ⌜ (n ≤ 16) × (m ≤ 16) × (place < 2 * (n * m)) ⌝ }
-    ensures { λ r. ⌜ r ≡ verdictIn «grower_unused» «pilot_unused» «tariff_cap» «free_cap» «tariff_hours» «free_hours» m place ⌝ }
+    ensures { λ r. ⌜ r ≡ verdictIn «grower_unused» «pilot_unused» rows m place ⌝ }
 {
     let i = place / 2 / m;
     let j = place / 2 % m;
     let d = place % 2;
-    let hours = of_deal(d, tariff_hours[i][j], free_hours[i][j]);
-    let cap = of_deal(d, tariff_cap[i][j], free_cap[i][j]);
-    let is_idle = idle(hours, cap, grower_unused[i], pilot_unused[j]);
+    let row = rows[i];
+    let is_idle = idle_in(row, grower_unused[i], pilot_unused[j], j, d);
     deal_verdict(is_idle, i, j, deal_of(d), place + 1)
 }

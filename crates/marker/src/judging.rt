@@ -1,6 +1,6 @@
 // The verdict on a settlement of a ticket, both as lists of numbers: pairs, then hours, then deals.
 ghost use mathlib.Core.Path.{_≡_};
-ghost use Prim.Native.Nat.{_*_, _/_, _%_, _<_, _≤_};
+ghost use Prim.Native.Nat.{_*_, _<_, _≤_};
 ghost use Rattle.marker.specs.View.{growersOf, pilotsOf};
 ghost use Rattle.marker.specs.View.{ticketOf, settlementOf};
 ghost use Rattle.marker.specs.Verdict.{dealsJudged, hoursJudged, judged};
@@ -10,10 +10,11 @@ use crate::Verdict;
 use crate::deal_faults::first_fault;
 use crate::deal_faults::verdict_at;
 use crate::pair_faults::first_wrong_pair;
-use crate::pair_faults::pair_verdict;
+use crate::pair_faults::pair_verdict_at;
 use crate::pair_faults::pairs;
 use crate::party_hours::first_over;
 use crate::party_hours::unused;
+use crate::rows::pair_rows;
 use crate::tables::grower_hours;
 use crate::tables::pilot_hours;
 use crate::tables::square;
@@ -59,17 +60,8 @@ fn judge_deals(
     }
     let grower_unused = unused(grower_hours, tariff_hours, free_hours, n, m);
     let pilot_unused = unused(pilot_hours, turned(tariff_hours), turned(free_hours), m, n);
-    verdict_at(
-        grower_unused,
-        pilot_unused,
-        tariff_cap,
-        free_cap,
-        tariff_hours,
-        free_hours,
-        n,
-        m,
-        place,
-    )
+    let rows = pair_rows(tariff_cap, free_cap, joint, tariff_hours, free_hours, pay);
+    verdict_at(grower_unused, pilot_unused, rows, n, m, place)
 }
 
 // Growers over their hours, then pilots: verdicts 5 and 6; then deals.
@@ -136,25 +128,10 @@ fn judge_tables(
         (ticketIn n m «grower_hours» «pilot_hours» «tariff_cap» «tariff_gain» «tariff_pay» «free_cap» joint)
         (settlementIn «tariff_hours» «free_hours» pay) ⌝ }
 {
-    let place = first_wrong_pair(
-        tariff_cap,
-        free_cap,
-        joint,
-        tariff_hours,
-        free_hours,
-        pay,
-        n,
-        m,
-    );
+    let rows = pair_rows(tariff_cap, free_cap, joint, tariff_hours, free_hours, pay);
+    let place = first_wrong_pair(rows, n, m);
     if place < pairs(n, m) {
-        let i = place / m;
-        let j = place % m;
-        return pair_verdict(
-            i,
-            j,
-            tariff_cap[i][j] < tariff_hours[i][j],
-            free_cap[i][j] < free_hours[i][j],
-        );
+        return pair_verdict_at(rows, n, m, place);
     }
     judge_hours(
         grower_hours,

@@ -13,6 +13,7 @@ mod deal_faults;
 mod judging;
 mod pair_faults;
 mod party_hours;
+mod rows;
 mod tables;
 
 use crate::judging::judge;
@@ -89,6 +90,16 @@ pub(crate) struct Party {
     pub(crate) free: [u16; 16],
     pub(crate) earned: [u16; 16],
     pub(crate) share: [u16; 16],
+}
+
+// A grower's pairs, a number for each pilot: both caps, the joint gain, the hours of both deals and the pay.
+pub(crate) struct PairRow {
+    pub(crate) tariff_cap: [u16; 16],
+    pub(crate) free_cap: [u16; 16],
+    pub(crate) joint: [u16; 16],
+    pub(crate) tariff_hours: [u16; 16],
+    pub(crate) free_hours: [u16; 16],
+    pub(crate) pay: [u16; 16],
 }
 
 fn no_ticket() -> [u16; 1315]

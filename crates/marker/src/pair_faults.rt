@@ -1,12 +1,11 @@
 // Pairs: verdicts 2 to 4.
 ghost use mathlib.Core.Path.{_≡_};
-ghost use mathlib.Core.Bool.{cond, _&&_, _||_};
 ghost use Prim.Native.Nat.{_+_, _*_, _<_, _≤_};
-ghost use Rattle.grid.specs.Grid.{at};
+ghost use lib.ListN.{getD};
 ghost use Rattle.grid.specs.First.{first};
-ghost use Rattle.marker.specs.Verdict.{payTest, pairTest};
-ghost use Rattle.marker.specs.Tables.{wrongPairIn};
-ghost use Rattle.marker.specs.declared.Verdict.the-variants as Verdict;
+ghost use Rattle.marker.specs.Verdict.{payTest, pairTest, byPair};
+ghost use Rattle.marker.specs.Tables.{noPairs, pairTestIn, wrongPairIn, pairVerdictIn};
+use crate::PairRow;
 use crate::Verdict;
 
 fn wrong_pay(gain: u16, hours: u16, pay: u16) -> bool
@@ -28,26 +27,19 @@ fn wrong_pair(
     tariff_cap < tariff_hours || (free_cap < free_hours || wrong_pay(gain, free_hours, pay))
 }
 
-pub(crate) fn pair_verdict(i: usize, j: usize, tariff_over: bool, free_over: bool) -> Verdict
-    ensures { λ r. ⌜ r ≡ cond «tariff_over» (Verdict.TariffOverCap i j)
-        (cond «free_over» (Verdict.FreeOverCap i j) (Verdict.WrongPay i j)) ⌝ }
+// The same of a grower's pair with pilot j.
+fn wrong_in(row: PairRow, j: usize) -> bool
+    requires { ⌜ j < 16 ⌝ }
+    ensures { λ r. ⌜ r ≡ pairTestIn row j ⌝ }
 {
-    if tariff_over {
-        return Verdict::TariffOverCap {
-            grower: i,
-            pilot: j,
-        };
-    }
-    if free_over {
-        return Verdict::FreeOverCap {
-            grower: i,
-            pilot: j,
-        };
-    }
-    Verdict::WrongPay {
-        grower: i,
-        pilot: j,
-    }
+    wrong_pair(
+        row.tariff_hours[j],
+        row.tariff_cap[j],
+        row.free_hours[j],
+        row.free_cap[j],
+        row.pay[j],
+        row.joint[j],
+    )
 }
 
 // How many pairs there are. The product is proved to fit here, once.
@@ -59,32 +51,51 @@ pub(crate) fn pairs(n: usize, m: usize) -> usize
 }
 
 // The first pair at fault, at place i * m + j.
-pub(crate) fn first_wrong_pair(
-    tariff_cap: [[u16; 16]; 16],
-    free_cap: [[u16; 16]; 16],
-    gain: [[u16; 16]; 16],
-    tariff_hours: [[u16; 16]; 16],
-    free_hours: [[u16; 16]; 16],
-    pay: [[u16; 16]; 16],
-    n: usize,
-    m: usize,
-) -> usize
+pub(crate) fn first_wrong_pair(rows: [PairRow; 16], n: usize, m: usize) -> usize
     requires { ⌜ (n ≤ 16) × (m ≤ 16) ⌝ }
-    ensures { λ r. ⌜ r ≡ first (wrongPairIn «tariff_cap» «free_cap» gain «tariff_hours» «free_hours» pay m) (n * m) ⌝ }
+    ensures { λ r. ⌜ r ≡ first (wrongPairIn rows m) (n * m) ⌝ }
 {
     for i in 0..n {
+        let row = rows[i];
         for j in 0..m {
-            if wrong_pair(
-                tariff_hours[i][j],
-                tariff_cap[i][j],
-                free_hours[i][j],
-                free_cap[i][j],
-                pay[i][j],
-                gain[i][j],
-            ) {
+            if wrong_in(row, j) {
                 return pairs(i, m) + j;
             }
         }
     }
     pairs(n, m)
+}
+
+// The verdict on the pair of grower i with pilot j.
+fn pair_verdict(row: PairRow, i: usize, j: usize) -> Verdict
+    requires { ⌜ j < 16 ⌝ }
+    ensures { λ r. ⌜ r ≡ pairVerdictIn row i j ⌝ }
+{
+    if row.tariff_cap[j] < row.tariff_hours[j] {
+        return Verdict::TariffOverCap {
+            grower: i,
+            pilot: j,
+        };
+    }
+    if row.free_cap[j] < row.free_hours[j] {
+        return Verdict::FreeOverCap {
+            grower: i,
+            pilot: j,
+        };
+    }
+    Verdict::WrongPay {
+        grower: i,
+        pilot: j,
+    }
+}
+
+// The verdict on the pair at a place.
+pub(crate) fn pair_verdict_at(rows: [PairRow; 16], n: usize, m: usize, place: usize) -> Verdict
+    requires { ⌜ (n ≤ 16) × (m ≤ 16) × (place < n * m) ⌝ }
+    ensures { λ r. ⌜ r ≡ byPair (λ i j. pairVerdictIn (getD rows i noPairs) i j) m place ⌝ }
+{
+    let i = place / m;
+    let j = place % m;
+    let row = rows[i];
+    pair_verdict(row, i, j)
 }

@@ -5,94 +5,66 @@ use native.Mathlib.Omega.{arith}
 use Rattle.grid.specs.First.{none}
 use Rattle.grid.proofs.FirstPlaces.{none-more, none-le, first-is}
 use Rattle.grid.proofs.Places.{row-next, row-within}
-use Rattle.marker.specs.Tables.{partyIn, wrongDealIn}
+use Rattle.marker.specs.Tables.{wrongDealIn}
 use Rattle.marker.proofs.Parties.{deal-there}
 use borrow.Author.Needs.{needs}
 use Rattle.marker.proofs.deal_faults.first_wrong_deal.Statement.{statement}
 use Rattle.marker.proofs.deal_faults.first_wrong_deal.Tie as tie
 
 abbrev Inv-loop2 : tie.InvT-loop2
-Inv-loop2 n m tariff-cap free-cap joint grower-unused grower-tariff grower-free gain share pilot-unused pilot-tariff pilot-free pay
-    pilot-share place₀ i j d₀ place d = (d ≤ 2) × none
-    (wrongDealIn (partyIn grower-unused grower-tariff grower-free gain share)
-    (partyIn pilot-unused pilot-tariff pilot-free pay pilot-share) tariff-cap free-cap joint n m) (2 * (i * m + j) + d) ×
-    (place ≡ 2 * (n * m))
+Inv-loop2 n m growers pilots rows place₀ i grower row j pilot d₀ place d = (d ≤ 2) ×
+    none (wrongDealIn growers pilots rows n m) (2 * (i * m + j) + d) × (place ≡ 2 * (n * m))
 
 abbrev μ-loop2 : tie.MeasureT-loop2
-μ-loop2 n m tariff-cap free-cap joint grower-unused grower-tariff grower-free gain share pilot-unused pilot-tariff pilot-free pay
-    pilot-share place₀ i j d₀ place d = 2 - d
+μ-loop2 n m growers pilots rows place₀ i grower row j pilot d₀ place d = 2 - d
 
 abbrev Inv-loop : tie.InvT-loop
-Inv-loop n m tariff-cap free-cap joint grower-unused grower-tariff grower-free gain share pilot-unused pilot-tariff pilot-free pay
-    pilot-share place₀ i j₀ place j = (j ≤ m) × none
-    (wrongDealIn (partyIn grower-unused grower-tariff grower-free gain share)
-    (partyIn pilot-unused pilot-tariff pilot-free pay pilot-share) tariff-cap free-cap joint n m) (2 * (i * m + j)) ×
-    (place ≡ 2 * (n * m))
+Inv-loop n m growers pilots rows place₀ i grower row j₀ place j = (j ≤ m) ×
+    none (wrongDealIn growers pilots rows n m) (2 * (i * m + j)) × (place ≡ 2 * (n * m))
 
 abbrev μ-loop : tie.MeasureT-loop
-μ-loop n m tariff-cap free-cap joint grower-unused grower-tariff grower-free gain share pilot-unused pilot-tariff pilot-free pay
-    pilot-share place₀ i j₀ place j = m - j
+μ-loop n m growers pilots rows place₀ i grower row j₀ place j = m - j
 
 abbrev Inv-search : tie.InvT-search
-Inv-search n m tariff-cap free-cap joint grower-unused grower-tariff grower-free gain share pilot-unused pilot-tariff pilot-free pay
-    pilot-share place₀ i₀ place i = (i ≤ n) × none
-    (wrongDealIn (partyIn grower-unused grower-tariff grower-free gain share)
-    (partyIn pilot-unused pilot-tariff pilot-free pay pilot-share) tariff-cap free-cap joint n m) (2 * (i * m)) × (place ≡ 2 * (n * m))
+Inv-search n m growers pilots rows place₀ i₀ place i = (i ≤ n) ×
+    none (wrongDealIn growers pilots rows n m) (2 * (i * m)) × (place ≡ 2 * (n * m))
 
 abbrev μ-search : tie.MeasureT-search
-μ-search n m tariff-cap free-cap joint grower-unused grower-tariff grower-free gain share pilot-unused pilot-tariff pilot-free pay
-    pilot-share place₀ i₀ place i = n - i
+μ-search n m growers pilots rows place₀ i₀ place i = n - i
 
 -- what the test gave at a deal is what the walk asks of its place
-there : (c : tie.After-wrong-deal Inv-loop2 μ-loop2 Inv-loop μ-loop Inv-search μ-search) → let a =
-    c .before .before .before .before .before .before .before .before .before .before .before .before .before .before .before .before
-    .before .before .before .args in
-    wrongDealIn (partyIn (a .t4) (a .t5) (a .t6) (a .t7) (a .t8)) (partyIn (a .t9) (a .t10) (a .t11) (a .t12) (a .t13)) (a .t1) (a .t2)
-    (a .t3) (a .n) (a .m)
-    (2 * (c .before .before .before .before .before .before .before .before .before .before .before .before .before .before .before
-    .before .before .search .i * a .m +
-    c .before .before .before .before .before .before .before .before .before .before .before .before .before .before .before .loop
-    .j) + c .before .before .before .before .before .before .before .before .before .before .before .before .before .loop2 .d) ≡
-    c .wrong-deal .result
-there c =
-    let a = c .before .before .before .before .before .before .before .before .before .before .before .before .before .before .before
-    .before .before .before .before .args in
-    deal-there (partyIn (a .t4) (a .t5) (a .t6) (a .t7) (a .t8)) (partyIn (a .t9) (a .t10) (a .t11) (a .t12) (a .t13)) (a .t1) (a .t2)
-    (a .t3) (a .n) (a .m)
-    (c .before .before .before .before .before .before .before .before .before .before .before .before .before .before .before .before
-    .before .search .i) (c .before .before .before .before .before .before .before .before .before .before .before .before .before
-    .before .before .loop .j)
-    (c .before .before .before .before .before .before .before .before .before .before .before .before .before .loop2 .d) _
-    (omega arith) (omega arith) (c .wrong-deal .ensures)
+there : (c : tie.After-wrong-deal Inv-loop2 μ-loop2 Inv-loop μ-loop Inv-search μ-search) → let a = c .before .before .before .before .before .before .before .before .before .before .before .args in
+    wrongDealIn (a .t1) (a .t2) (a .t3) (a .n) (a .m) (2 * (c .before .before .before .before .before .before .before .before .before .search .i * a .m + c .before .before .before .before .before .loop .j) + c .before .before .loop2 .d)
+    ≡ c .wrong-deal .result
+there c = let a = c .before .before .before .before .before .before .before .before .before .before .before .args in
+    deal-there (a .t1) (a .t2) (a .t3) (a .n) (a .m) (c .before .before .before .before .before .before .before .before .before .search .i) (c .before .before .before .before .before .loop .j) (c .before .before .loop2 .d) _ (omega arith) (omega arith)
+    (c .wrong-deal .ensures)
 
 search-holds : tie.Need-search-holds Inv-loop2 μ-loop2 Inv-loop μ-loop Inv-search μ-search
 search-holds c = (omega arith, (λ q h. absurd (omega arith)), omega arith)
 
 loop-holds : tie.Need-loop-holds Inv-loop2 μ-loop2 Inv-loop μ-loop Inv-search μ-search
-loop-holds c = (omega arith, none-le _ _ _ (c .before .search .inv .1) (omega arith), omega arith)
+loop-holds c = (omega arith, none-le _ _ _ (c .before .before .before .search .inv .1) (omega arith), omega arith)
 
 loop2-holds : tie.Need-loop2-holds Inv-loop2 μ-loop2 Inv-loop μ-loop Inv-search μ-search
-loop2-holds c = (omega arith, none-le _ _ _ (c .before .loop .inv .1) (omega arith), omega arith)
+loop2-holds c = (omega arith, none-le _ _ _ (c .before .before .loop .inv .1) (omega arith), omega arith)
 
 loop2-again : tie.Need-loop2-again Inv-loop2 μ-loop2 Inv-loop μ-loop Inv-search μ-search
 loop2-again c =
     let w = c .before in (
-      search needs,
-      none-le _ _ _
-          (none-more _ _ (w .before .before .before .before .before .before .before .before .before .before .before .before .before .loop2
-          .inv .1) (there w ∙ c .if1 .left)) (omega arith),
-      search needs,
+      omega arith,
+      none-le _ _ _ (none-more _ _ (w .before .before .loop2 .inv .1) (there w ∙ c .if1 .left)) (omega arith),
+      w .before .before .loop2 .inv .2,
     )
 
 loop-again : tie.Need-loop-again Inv-loop2 μ-loop2 Inv-loop μ-loop Inv-search μ-search
-loop-again c = (omega arith, none-le _ _ _ (c .before .loop2 .inv .1) (omega arith), omega arith)
+loop-again c = (omega arith, none-le _ _ _ (c .before .loop2 .inv .1) (omega arith), c .before .loop2 .inv .2)
 
 search-again : tie.Need-search-again Inv-loop2 μ-loop2 Inv-loop μ-loop Inv-search μ-search
 search-again c = (
-  search needs,
-  none-le _ _ _ (c .before .loop .inv .1)
-      (omega (arith, row-next (c .before .before .before .search .i) (c .before .before .before .before .before .args .m))),
-  search needs,
+  omega arith,
+  none-le _ _ _ (c .before .loop .inv .1) (omega (arith, row-next (c .before .before .before .before .before .search .i) (c .before .before .before .before .before .before .before .args .m))),
+  c .before .loop .inv .2,
 )
 
 returns : tie.Need-returns Inv-loop2 μ-loop2 Inv-loop μ-loop Inv-search μ-search
@@ -106,17 +78,9 @@ returns c =
 returns-2 : tie.Need-returns-2 Inv-loop2 μ-loop2 Inv-loop μ-loop Inv-search μ-search
 returns-2 c =
     let w = c .before .before in
-    let a = w .before .before .before .before .before .before .before .before .before .before .before .before .before .before .before
-    .before .before .before .before .args in
+    let a = w .before .before .before .before .before .before .before .before .before .before .before .args in
     c .deal-place .ensures
-    ∙ sym (first-is _ _ _
-    (omega (
-      arith,
-      row-within
-          (w .before .before .before .before .before .before .before .before .before .before .before .before .before .before .before
-          .before .before .search .i) (a .n) (a .m) (omega arith),
-    ))
-    (w .before .before .before .before .before .before .before .before .before .before .before .before .before .loop2 .inv .1)
+    ∙ sym (first-is _ _ _ (omega (arith, row-within (w .before .before .before .before .before .before .before .before .before .search .i) (a .n) (a .m) (omega arith))) (w .before .before .loop2 .inv .1)
     (λ _. there w ∙ c .before .if1 .taken))
 
 pub first-wrong-deal-spec : {M : Type 1} → statement M
@@ -132,40 +96,14 @@ first-wrong-deal-spec =
     (λ c κs. search needs)
     (λ c. omega arith)
     search-holds
+    (λ c. omega arith)
+    (λ c. omega arith)
+    (λ c. omega arith)
+    (λ c. omega arith)
     loop-holds
+    (λ c. omega arith)
+    (λ c. omega arith)
     loop2-holds
-    (λ c. omega arith)
-    (λ c. omega arith)
-    (λ c. omega arith)
-    (λ c. omega arith)
-    (λ c. omega arith)
-    (λ c. omega arith)
-    (λ c. omega arith)
-    (λ c. omega arith)
-    (λ c. omega arith)
-    (λ c. omega arith)
-    (λ c. omega arith)
-    (λ c. omega arith)
-    (λ c. omega arith)
-    (λ c. omega arith)
-    (λ c. omega arith)
-    (λ c. omega arith)
-    (λ c. omega arith)
-    (λ c. omega arith)
-    (λ c. omega arith)
-    (λ c. omega arith)
-    (λ c. omega arith)
-    (λ c. omega arith)
-    (λ c. omega arith)
-    (λ c. omega arith)
-    (λ c. omega arith)
-    (λ c. omega arith)
-    (λ c. omega arith)
-    (λ c. omega arith)
-    (λ c. omega arith)
-    (λ c. omega arith)
-    (λ c. omega arith)
-    (λ c. omega arith)
     (λ c κs. search needs)
     (λ c κs. search needs)
     (λ c. omega arith)

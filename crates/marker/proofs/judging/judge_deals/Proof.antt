@@ -26,15 +26,14 @@ returns c =
 
 returns-2 : tie.Need-returns-2
 returns-2 c =
-    let s = c .before .before .before .before .before .before .before .before in
+    let s = c .before .before .before .before .before .before .before .before .before in
     let a = s .args in
-    let p = c .before .before .before .before .before .before .before .first-fault .result in
+    let p = c .before .before .before .before .before .before .before .before .first-fault .result in
     c .verdict-at .ensures ∙ verdict-in (a .n) (a .m) (a .grower-hours) (a .pilot-hours) (a .tariff-cap) (a .tariff-gain) (a .tariff-pay)
     (a .free-cap) (a .joint) (a .tariff-hours) (a .free-hours) (a .pay) (omega arith) (omega arith) _ _
-    (c .before .before .before .turned .ensures) (c .before .before .turned2 .ensures) _ _
-    (c .before .before .before .before .unused .ensures) (c .before .unused2 .ensures) p (omega arith)
-    ∙ deal-fault (ticket s) (settlement s) p (c .before .before .before .before .before .before .before .first-fault .ensures)
-    (omega arith)
+    (c .before .before .before .before .turned .ensures) (c .before .before .before .turned2 .ensures) _ _ (c .before .before .before .before .before .unused .ensures) (c .before .before .unused2 .ensures)
+    (c .before .pair-rows .result) (c .before .pair-rows .ensures) p (omega arith)
+    ∙ deal-fault (ticket s) (settlement s) p (c .before .before .before .before .before .before .before .before .first-fault .ensures) (omega arith)
 
 pub judge-deals-spec : {M : Type 1} → statement M
 judge-deals-spec =
@@ -44,6 +43,7 @@ judge-deals-spec =
     (λ c κs. search needs)
     (λ c. omega arith)
     returns
+    (λ c κs. search needs)
     (λ c κs. search needs)
     (λ c κs. search needs)
     (λ c κs. search needs)
