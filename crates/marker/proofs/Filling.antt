@@ -38,25 +38,25 @@ module _ (val : ℕ → ℕ) (r : List ℕ) where
       same : getD (set r i v) i 0 ≡ v
       same = getD-set-same r i v 0 (omega (arith, p .row .long))
 
--- the first i of sixteen parties, or of sixteen rows, are made
-pub record Made {A : Type 0} (none : A) (val : ℕ → A) (i : ℕ) (q : List A) : Type 0 where
+-- the first i of sixteen parties have a property
+pub record Made {A : Type 0} (none : A) (P : ℕ → A → Type 0) (i : ℕ) (q : List A) : Type 0 where
   pub long : length q ≡ 16
-  pub made : (k : ℕ) → k < i → getD q k none ≡ val k
+  pub made : (k : ℕ) → k < i → P k (getD q k none)
 
-module _ {A : Type 0} (none : A) (val : ℕ → A) (q : List A) where
-  pub made-start : length q ≡ 16 → Made none val 0 q
+module _ {A : Type 0} (none : A) (P : ℕ → A → Type 0) (q : List A) where
+  pub made-start : length q ≡ 16 → Made none P 0 q
   made-start l = record { long = l; made = λ k h. absurd (omega arith) }
 
-  pub made-put : (i : ℕ) (v : A) → i < 16 → v ≡ val i → Made none val i q → Made none val (i + 1) (set q i v)
-  made-put i v hi e p = record {
+  pub made-put : (i : ℕ) (v : A) → i < 16 → P i v → Made none P i q → Made none P (i + 1) (set q i v)
+  made-put i v hi pv p = record {
     long = length-set q i v ∙ p .long;
-    made = by-index (λ k. k < i + 1 → getD (set q i v) k none ≡ val k) i
-        (λ _. getD-set-same q i v none (omega (arith, p .long)) ∙ e)
-        (λ k n h. getD-set-other q i k v none n ∙ p .made k (omega arith));
+    made = by-index (λ k. k < i + 1 → P k (getD (set q i v) k none)) i
+        (λ _. rw (getD-set-same q i v none (omega (arith, p .long))) pv)
+        (λ k n h. rw (getD-set-other q i k v none n) (p .made k (omega arith)));
   }
 
-  pub made-all : (i : ℕ) → 16 ≤ i → Made none val i q → (k : ℕ) → k < 16 → getD q k none ≡ val k
-  made-all i h p k hk = p .made k (omega arith)
+  pub made-all : (i n : ℕ) → n ≤ i → Made none P i q → (k : ℕ) → k < n → P k (getD q k none)
+  made-all i n h p k hk = p .made k (omega arith)
 
 -- a number that stands where a quantity of a pair stands is that quantity
 pub quantity-at : (q : Quantity) (list : List ℕ) (n m i j p v : ℕ) → n ≡ growersOf list → m ≡ pilotsOf list →

@@ -2,11 +2,10 @@ pub mod Examples
 pub mod DealNumbers
 pub mod Filling
 pub mod Spares
-pub mod Parties
+pub mod PartyRows
 pub mod Walks
 pub mod CheapestSpares
 pub mod Soundness
-pub mod SameVerdict
 pub mod Views
 pub mod Verdicts
 pub mod Marking

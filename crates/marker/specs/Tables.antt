@@ -1,22 +1,22 @@
--- Rows and squares, as the code holds a ticket and a settlement, in market's terms.
+-- Rows, pairs and parties, as the code holds a ticket and a settlement, in market's terms.
 -- Assumes nothing.
-use Prim.Native.Nat.{ℕ, _+_, _-_, _/_, _%_, _<_, _≤_}
+use Prim.Native.Nat.{ℕ, _-_, _<_, _≤_}
 use mathlib.Core.Path.{_≡_}
 use mathlib.Core.Bool.{Bool, cond, _||_}
 use mathlib.Core.List.{List, []}
 use lib.Dec.{ltb}
 use lib.ListN.{getD, set}
-use Rattle.grid.specs.Grid.{Grid, at, Row}
+use Rattle.grid.specs.Grid.{Row}
 use Rattle.market.specs.declared.Deal.{Deal}
-use Rattle.market.specs.Market.{Ticket, Settlement, sumDeals}
-use Rattle.marker.specs.declared.PairRow.{PairRow}
+use Rattle.market.specs.declared.Deal.the-variants.{Tariff, Free}
+use Rattle.market.specs.Market.{Ticket, Settlement, sumDeals, earnedByGrower, earnedByPilot}
+use Rattle.marker.specs.declared.Pair.{Pair}
 use Rattle.marker.specs.declared.Party.{Party}
 use Rattle.marker.specs.declared.Spare.{Spare}
 use Rattle.marker.specs.declared.Verdict.{Verdict}
-use Rattle.marker.specs.declared.Verdict.the-variants.{TariffOverCap, FreeOverCap, WrongPay, Idle, Blocks}
-use Rattle.marker.specs.View.{byDeal}
-use Rattle.grid.specs.First.{byPlace}
-use Rattle.marker.specs.Verdict.{pairTest, idleTest, blocksTest, cheapestSpare, byPair, dealAt}
+use Rattle.marker.specs.declared.Verdict.the-variants.{TariffOverCap, FreeOverCap, WrongPay}
+use Rattle.marker.specs.View.{byDeal, growersOf, pilotsOf}
+use Rattle.marker.specs.Verdict.{pairTest, idleTest, blocksTest, cheapestSpare}
 
 -- the first n numbers of a row are val 0, .., val (n - 1), the others 0
 pub record FilledRow (val : ℕ → ℕ) (n : ℕ) (r : List ℕ) : Type 0 where
@@ -24,66 +24,46 @@ pub record FilledRow (val : ℕ → ℕ) (n : ℕ) (r : List ℕ) : Type 0 where
   pub inner : (i : ℕ) → i < n → getD r i 0 ≡ val i
   pub outer : (i : ℕ) → n ≤ i → getD r i 0 ≡ 0
 
--- the ticket of two rows and five squares
-abbrev pub ticketIn : ℕ → ℕ → List ℕ → List ℕ → Grid → Grid → Grid → Grid → Grid → Ticket
-ticketIn n m growerHours pilotHours tariffCap tariffGain tariffPay freeCap jointGain = record {
-  growers = n;
-  pilots = m;
-  growerHours = λ i. getD growerHours i 0;
-  pilotHours = λ j. getD pilotHours j 0;
-  tariffCap = at tariffCap;
-  tariffGain = at tariffGain;
-  tariffPay = at tariffPay;
-  freeCap = at freeCap;
-  jointGain = at jointGain;
-  growerStandby = λ i. 0;
-  pilotStandby = λ j. 0;
+-- a ticket of n growers and m pilots, within the limits
+pub record Sized (n m : ℕ) (list : List ℕ) : Type 0 where
+  pub growers : n ≡ growersOf list
+  pub pilots : m ≡ pilotsOf list
+  pub fewGrowers : n ≤ 16
+  pub fewPilots : m ≤ 16
+
+-- Pairs.
+
+-- the pair of grower i and pilot j
+abbrev pub pairOf : Ticket → Settlement → ℕ → ℕ → Pair
+pairOf t x i j = record {
+  «tariff_cap» = t .tariffCap i j;
+  «tariff_gain» = t .tariffGain i j;
+  «tariff_pay» = t .tariffPay i j;
+  «free_cap» = t .freeCap i j;
+  joint = t .jointGain i j;
+  «tariff_hours» = x .hours Tariff i j;
+  «free_hours» = x .hours Free i j;
+  pay = x .pay i j;
 }
 
--- the settlement of three squares
-abbrev pub settlementIn : Grid → Grid → Grid → Settlement
-settlementIn tariffHours freeHours pay = record { hours = byDeal (at tariffHours) (at freeHours); pay = at pay }
+-- the hours and the cap of a deal
+abbrev pub hoursIn : Pair → Deal → ℕ
+hoursIn p = byDeal (p .«tariff_hours») (p .«free_hours»)
 
--- A grower's pairs: rows with a number for each pilot.
+abbrev pub capIn : Pair → Deal → ℕ
+capIn p = byDeal (p .«tariff_cap») (p .«free_cap»)
 
--- the pairs of grower i, of six squares
-abbrev pub pairsIn : Grid → Grid → Grid → Grid → Grid → Grid → ℕ → PairRow
-pairsIn tariffCap freeCap joint tariffHours freeHours pay i = record {
-  «tariff_cap» = getD tariffCap i [];
-  «free_cap» = getD freeCap i [];
-  joint = getD joint i [];
-  «tariff_hours» = getD tariffHours i [];
-  «free_hours» = getD freeHours i [];
-  pay = getD pay i [];
-}
+-- the test of a pair
+abbrev pub pairTestIn : Pair → Bool
+pairTestIn p = pairTest (p .«tariff_hours») (p .«tariff_cap») (p .«free_hours») (p .«free_cap») (p .pay) (p .joint)
 
--- no pairs, where a list of such rows has ended
-abbrev pub noPairs : PairRow
-noPairs = record { «tariff_cap» = []; «free_cap» = []; joint = []; «tariff_hours» = []; «free_hours» = []; pay = [] }
+-- the verdict on the pair of grower i and pilot j, if it is at fault
+abbrev pub pairVerdictIn : Pair → ℕ → ℕ → Verdict
+pairVerdictIn p i j =
+    cond (ltb (p .«tariff_cap») (p .«tariff_hours»)) (TariffOverCap i j)
+    (cond (ltb (p .«free_cap») (p .«free_hours»)) (FreeOverCap i j) (WrongPay i j))
 
--- the hours and the cap of the deal d with pilot j
-abbrev pub hoursIn : PairRow → ℕ → Deal → ℕ
-hoursIn row j d = byDeal (getD (row .«tariff_hours») j 0) (getD (row .«free_hours») j 0) d
-
-abbrev pub capIn : PairRow → ℕ → Deal → ℕ
-capIn row j d = byDeal (getD (row .«tariff_cap») j 0) (getD (row .«free_cap») j 0) d
-
--- the test of the pair with pilot j
-abbrev pub pairTestIn : PairRow → ℕ → Bool
-pairTestIn row j = pairTest (getD (row .«tariff_hours») j 0) (getD (row .«tariff_cap») j 0) (getD (row .«free_hours») j 0)
-    (getD (row .«free_cap») j 0) (getD (row .pay) j 0) (getD (row .joint) j 0)
-
--- the test of pairs at place i * m + j
-abbrev pub wrongPairIn : List PairRow → ℕ → ℕ → Bool
-wrongPairIn rows = byPair (λ i j. pairTestIn (getD rows i noPairs) j)
-
--- the verdict on the pair of grower i with pilot j, if it is at fault
-abbrev pub pairVerdictIn : PairRow → ℕ → ℕ → Verdict
-pairVerdictIn row i j =
-    cond (ltb (getD (row .«tariff_cap») j 0) (getD (row .«tariff_hours») j 0)) (TariffOverCap i j)
-    (cond (ltb (getD (row .«free_cap») j 0) (getD (row .«free_hours») j 0)) (FreeOverCap i j) (WrongPay i j))
-
--- One party. A square has a row for each party, a row a number for each partner. For pilots the squares are turned.
+-- Parties. A row has a number for each partner.
 
 -- two rows, one of tariff deals and one of free deals, by deal and partner
 abbrev pub lines : List ℕ → List ℕ → Deal → ℕ → ℕ
@@ -93,61 +73,58 @@ lines tariff free = byDeal (λ l. getD tariff l 0) (λ l. getD free l 0)
 abbrev pub usedIn : List ℕ → List ℕ → ℕ → ℕ
 usedIn tariff free k = sumDeals (lines tariff free) k
 
--- party i is over its hours
-abbrev pub overIn : List ℕ → Grid → Grid → ℕ → ℕ → Bool
-overIn hours tariff free k i = ltb (getD hours i 0) (usedIn (getD tariff i []) (getD free i []) k)
+-- the hours of grower i with m pilots, and of pilot j with n growers
+abbrev pub growerUsedIn : Settlement → ℕ → ℕ → ℕ
+growerUsedIn x m i = sumDeals (λ e l. x .hours e i l) m
 
--- the free hours of party i
-abbrev pub unusedIn : List ℕ → Grid → Grid → ℕ → ℕ → ℕ
-unusedIn hours tariff free k i = getD hours i 0 - usedIn (getD tariff i []) (getD free i []) k
+abbrev pub pilotUsedIn : Settlement → ℕ → ℕ → ℕ
+pilotUsedIn x n j = sumDeals (λ e k. x .hours e k j) n
 
--- a row without the number at y, if that belongs to the deal itself
-abbrev pub besideOwn : List ℕ → Bool → ℕ → List ℕ
-besideOwn hours own y = cond own (set hours y 0) hours
+-- grower i, or pilot j, is over his hours
+abbrev pub growerOverIn : Ticket → Settlement → ℕ → ℕ → Bool
+growerOverIn t x m i = ltb (t .growerHours i) (growerUsedIn x m i)
 
--- party i, of its free hours, its hours with each partner, and what each of these earns
-abbrev pub partyIn : List ℕ → Grid → Grid → Grid → Grid → ℕ → Party
-partyIn unused tariff free earned share i = record {
-  unused = getD unused i 0;
-  tariff = getD tariff i [];
-  free = getD free i [];
-  earned = getD earned i [];
-  share = getD share i [];
-}
+abbrev pub pilotOverIn : Ticket → Settlement → ℕ → ℕ → Bool
+pilotOverIn t x n j = ltb (t .pilotHours j) (pilotUsedIn x n j)
+
+-- the party with so many free hours, and with such hours and earnings by deal and partner, one of k
+pub record PartyOf (p : Party) (k free : ℕ) (had worth : Deal → ℕ → ℕ) : Type 0 where
+  pub unused : p .unused ≡ free
+  pub hours : (e : Deal) (l : ℕ) → l < k → lines (p .tariff) (p .free) e l ≡ had e l
+  pub earned : (e : Deal) (l : ℕ) → l < k → lines (p .earned) (p .share) e l ≡ worth e l
+
+-- it is grower i, with m pilots
+abbrev pub GrowerIn : Ticket → Settlement → ℕ → ℕ → Party → Type 0
+GrowerIn t x m i p =
+    PartyOf p m (t .growerHours i - growerUsedIn x m i) (λ e l. x .hours e i l) (λ e l. earnedByGrower t x e i l)
+
+-- it is pilot j, with n growers
+abbrev pub PilotIn : Ticket → Settlement → ℕ → ℕ → Party → Type 0
+PilotIn t x n j p =
+    PartyOf p n (t .pilotHours j - pilotUsedIn x n j) (λ e k. x .hours e k j) (λ e k. earnedByPilot t x e k j)
 
 -- nobody, where a list of parties has ended
 abbrev pub nobody : Party
 nobody = record { unused = 0; tariff = []; free = []; earned = []; share = [] }
 
--- its cheapest spare for the deal d with partner y of k; a free hour is worth nothing
+-- a row without the number at y, if that belongs to the deal itself
+abbrev pub besideOwn : List ℕ → Bool → ℕ → List ℕ
+besideOwn hours own y = cond own (set hours y 0) hours
+
+-- a party's cheapest spare for the deal d with partner y of k; a free hour is worth nothing
 abbrev pub spareIn : Party → ℕ → Deal → ℕ → Spare
 spareIn p k d y = cheapestSpare (p .unused) 0 (lines (p .tariff) (p .free)) (lines (p .earned) (p .share)) k d y
 
--- the deal d of a grower with pilot j is idle
-abbrev pub idleIn : PairRow → ℕ → ℕ → ℕ → Deal → Bool
-idleIn row ofGrower ofPilot j d = idleTest (hoursIn row j d) (capIn row j d) ofGrower ofPilot
+-- the deal d of a pair is idle, while grower and pilot have so many free hours
+abbrev pub idleIn : Pair → ℕ → ℕ → Deal → Bool
+idleIn p ofGrower ofPilot d = idleTest (hoursIn p d) (capIn p d) ofGrower ofPilot
 
--- the deal d of grower i, one of n, and pilot j, one of m, blocks
-abbrev pub blocksIn : Party → Party → PairRow → ℕ → ℕ → ℕ → ℕ → Deal → Bool
-blocksIn grower pilot row n m i j d =
-    blocksTest d (hoursIn row j d) (capIn row j d) (spareIn grower m d j) (spareIn pilot n d i) (getD (grower .earned) j 0)
-    (getD (pilot .earned) i 0) (getD (row .joint) j 0)
+-- the deal d of a pair blocks, with such spares
+abbrev pub blocksIn : Pair → Spare → Spare → Deal → Bool
+blocksIn p ofGrower ofPilot d =
+    blocksTest d (hoursIn p d) (capIn p d) ofGrower ofPilot (p .«tariff_gain») (p .«tariff_pay») (p .joint)
 
--- it is idle or blocks
-abbrev pub wrongIn : Party → Party → PairRow → ℕ → ℕ → ℕ → ℕ → Deal → Bool
-wrongIn grower pilot row n m i j d =
-    idleIn row (grower .unused) (pilot .unused) j d || blocksIn grower pilot row n m i j d
-
--- the test of deals at place 2 * (i * m + j) + d
-abbrev pub wrongDealIn : List Party → List Party → List PairRow → ℕ → ℕ → ℕ → Bool
-wrongDealIn growers pilots rows n m =
-    byPlace (λ i j d. wrongIn (getD growers i nobody) (getD pilots j nobody) (getD rows i noPairs) n m i j (dealAt d)) m
-
--- the verdict on the deal at place 2 * (i * m + j) + d, if it is at fault: idle, or else it blocks
-abbrev pub verdictOn : List ℕ → List ℕ → List PairRow → ℕ → ℕ → ℕ → Deal → Verdict
-verdictOn growerUnused pilotUnused rows count i j d =
-    cond (idleIn (getD rows i noPairs) (getD growerUnused i 0) (getD pilotUnused j 0) j d) (Idle i j d count) (Blocks i j d count)
-
-abbrev pub verdictIn : List ℕ → List ℕ → List PairRow → ℕ → ℕ → Verdict
-verdictIn growerUnused pilotUnused rows m p =
-    verdictOn growerUnused pilotUnused rows (p + 1) (p / 2 / m) (p / 2 % m) (dealAt (p % 2))
+-- the deal d of grower i, one of n, and pilot j, one of m, is idle or blocks
+abbrev pub wrongIn : Party → Party → Pair → ℕ → ℕ → ℕ → ℕ → Deal → Bool
+wrongIn grower pilot p n m i j d =
+    idleIn p (grower .unused) (pilot .unused) d || blocksIn p (spareIn grower m d j) (spareIn pilot n d i) d

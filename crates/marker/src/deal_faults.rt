@@ -3,14 +3,11 @@ ghost use mathlib.Core.Path.{_≡_};
 ghost use mathlib.Core.Bool.{cond, _&&_};
 ghost use Prim.Native.Nat.{_+_, _*_, _/_, _%_, _<_, _≤_};
 ghost use Rattle.grid.specs.First.{first};
-ghost use Rattle.marker.specs.View.{byDeal};
-ghost use Rattle.marker.specs.Verdict.{idleTest, below, blocksTest, dealAt};
-ghost use Rattle.marker.specs.Verdict.{dealFaultAt};
-ghost use Rattle.marker.specs.Tables.{ticketIn, settlementIn};
-ghost use Rattle.marker.specs.Tables.{hoursIn, capIn, idleIn, blocksIn};
-ghost use Rattle.marker.specs.Tables.{wrongIn, wrongDealIn, verdictIn};
+ghost use Rattle.marker.specs.View.{byDeal, ticketOf, settlementOf};
+ghost use Rattle.marker.specs.Verdict.{idleTest, blocksTest, dealAt, dealFaultAt, dealVerdictAt};
+ghost use Rattle.marker.specs.Tables.{Sized, idleIn, blocksIn, wrongIn};
 ghost use Rattle.marker.specs.declared.Verdict.the-variants as Verdict;
-use crate::PairRow;
+use crate::Pair;
 use crate::Party;
 use crate::Spare;
 use crate::Verdict;
@@ -18,11 +15,10 @@ use crate::cheap_spares::below;
 use crate::cheap_spares::both_below;
 use crate::cheap_spares::cheapest_spare;
 use crate::pair_faults::pairs;
-use crate::party_hours::unused;
-use crate::rows::pair_rows;
-use crate::rows::parties;
-use crate::tables::grower_share;
-use crate::tables::turned;
+use crate::parties::all_pilots;
+use crate::parties::grower_at;
+use crate::parties::pilot_at;
+use crate::tables::pair_at;
 use market::Deal;
 
 fn deal_of(d: usize) -> Deal
@@ -62,59 +58,38 @@ fn of_deal(d: usize, tariff: u16, free: u16) -> u16
     if d == 0 { tariff } else { free }
 }
 
-fn hours_in(row: PairRow, j: usize, d: usize) -> u16
-    requires { ⌜ j < 16 ⌝ }
-    ensures { λ r. ⌜ r ≡ hoursIn row j (dealAt d) ⌝ }
+// The deal d of a pair is idle, while grower and pilot have so many free hours.
+fn idle_in(pair: Pair, of_grower: u16, of_pilot: u16, d: usize) -> bool
+    ensures { λ r. ⌜ r ≡ idleIn pair «of_grower» «of_pilot» (dealAt d) ⌝ }
 {
-    of_deal(d, row.tariff_hours[j], row.free_hours[j])
+    let hours = of_deal(d, pair.tariff_hours, pair.free_hours);
+    let cap = of_deal(d, pair.tariff_cap, pair.free_cap);
+    idle(hours, cap, of_grower, of_pilot)
 }
 
-fn cap_in(row: PairRow, j: usize, d: usize) -> u16
-    requires { ⌜ j < 16 ⌝ }
-    ensures { λ r. ⌜ r ≡ capIn row j (dealAt d) ⌝ }
+// The deal d of a pair blocks, with such spares.
+fn blocks_in(pair: Pair, of_grower: Spare, of_pilot: Spare, d: usize) -> bool
+    ensures { λ r. ⌜ r ≡ blocksIn pair «of_grower» «of_pilot» (dealAt d) ⌝ }
 {
-    of_deal(d, row.tariff_cap[j], row.free_cap[j])
-}
-
-// The deal d of a grower with pilot j is idle.
-fn idle_in(row: PairRow, of_grower: u16, of_pilot: u16, j: usize, d: usize) -> bool
-    requires { ⌜ j < 16 ⌝ }
-    ensures { λ r. ⌜ r ≡ idleIn row «of_grower» «of_pilot» j (dealAt d) ⌝ }
-{
-    idle(hours_in(row, j, d), cap_in(row, j, d), of_grower, of_pilot)
-}
-
-// The deal d of grower i and pilot j blocks.
-fn blocks_in(
-    grower: Party,
-    pilot: Party,
-    row: PairRow,
-    n: usize,
-    m: usize,
-    i: usize,
-    j: usize,
-    d: usize,
-) -> bool
-    requires { ⌜ (n ≤ 16) × (m ≤ 16) × (i < 16) × (j < 16) × (d < 2) ⌝ }
-    ensures { λ r. ⌜ r ≡ blocksIn grower pilot row n m i j (dealAt d) ⌝ }
-{
+    let hours = of_deal(d, pair.tariff_hours, pair.free_hours);
+    let cap = of_deal(d, pair.tariff_cap, pair.free_cap);
     blocks(
         deal_of(d),
-        hours_in(row, j, d),
-        cap_in(row, j, d),
-        cheapest_spare(grower, m, d, j),
-        cheapest_spare(pilot, n, d, i),
-        grower.earned[j],
-        pilot.earned[i],
-        row.joint[j],
+        hours,
+        cap,
+        of_grower,
+        of_pilot,
+        pair.tariff_gain,
+        pair.tariff_pay,
+        pair.joint,
     )
 }
 
-// The deal d of grower i and pilot j is idle or blocks.
+// The deal d of grower i, one of n, and pilot j, one of m, is idle or blocks.
 fn wrong_deal(
     grower: Party,
     pilot: Party,
-    row: PairRow,
+    pair: Pair,
     n: usize,
     m: usize,
     i: usize,
@@ -122,9 +97,14 @@ fn wrong_deal(
     d: usize,
 ) -> bool
     requires { ⌜ (n ≤ 16) × (m ≤ 16) × (i < 16) × (j < 16) × (d < 2) ⌝ }
-    ensures { λ r. ⌜ r ≡ wrongIn grower pilot row n m i j (dealAt d) ⌝ }
+    ensures { λ r. ⌜ r ≡ wrongIn grower pilot pair n m i j (dealAt d) ⌝ }
 {
-    idle_in(row, grower.unused, pilot.unused, j, d) || blocks_in(grower, pilot, row, n, m, i, j, d)
+    if idle_in(pair, grower.unused, pilot.unused, d) {
+        return true;
+    }
+    let of_grower = cheapest_spare(grower, m, d, j);
+    let of_pilot = cheapest_spare(pilot, n, d, i);
+    blocks_in(pair, of_grower, of_pilot, d)
 }
 
 // The place of a deal. The product is proved to fit here, once.
@@ -136,24 +116,19 @@ fn deal_place(n: usize, m: usize, i: usize, j: usize, d: usize) -> usize
 }
 
 // The last walk: the first deal that is idle or blocks.
-fn first_wrong_deal(
-    growers: [Party; 16],
-    pilots: [Party; 16],
-    rows: [PairRow; 16],
-    n: usize,
-    m: usize,
-) -> usize
-    requires { ⌜ (n ≤ 16) × (m ≤ 16) ⌝ }
-    ensures { λ r. ⌜ r ≡ first (wrongDealIn growers pilots rows n m) (2 * (n * m)) ⌝ }
+pub(crate) fn first_wrong_deal(ticket: &[u16], settlement: &[u16], n: usize, m: usize) -> usize
+    requires { ⌜ Sized n m (now ticket) ⌝ }
+    ensures { λ r. ⌜ r ≡ first (dealFaultAt (ticketOf (now (ticket .entry))) (settlementOf (now (settlement .entry)))) (2 * (n * m)) ⌝ }
 {
+    let pilots = all_pilots(ticket, settlement, n, m);
     let mut place = 2 * pairs(n, m);
     'search: for i in 0..n {
-        let grower = growers[i];
-        let row = rows[i];
+        let grower = grower_at(ticket, settlement, i, m);
         for j in 0..m {
             let pilot = pilots[j];
+            let pair = pair_at(ticket, settlement, i, j);
             for d in 0..2usize {
-                if wrong_deal(grower, pilot, row, n, m, i, j, d) {
+                if wrong_deal(grower, pilot, pair, n, m, i, j, d) {
                     place = deal_place(n, m, i, j, d);
                     break 'search;
                 }
@@ -161,45 +136,6 @@ fn first_wrong_deal(
         }
     }
     place
-}
-
-// The last walk on a ticket's and a settlement's tables: the place of the first deal at fault.
-pub(crate) fn first_fault(
-    grower_hours: [u16; 16],
-    pilot_hours: [u16; 16],
-    tariff_cap: [[u16; 16]; 16],
-    tariff_gain: [[u16; 16]; 16],
-    tariff_pay: [[u16; 16]; 16],
-    free_cap: [[u16; 16]; 16],
-    joint: [[u16; 16]; 16],
-    tariff_hours: [[u16; 16]; 16],
-    free_hours: [[u16; 16]; 16],
-    pay: [[u16; 16]; 16],
-    n: usize,
-    m: usize,
-) -> usize
-    requires { ⌜ (n ≤ 16) × (m ≤ 16) ⌝ }
-    ensures { λ r. ⌜ r ≡ first (dealFaultAt
-        (ticketIn n m «grower_hours» «pilot_hours» «tariff_cap» «tariff_gain» «tariff_pay» «free_cap» joint)
-        (settlementIn «tariff_hours» «free_hours» pay)) (2 * (n * m)) ⌝ }
-{
-    let pilot_tariff = turned(tariff_hours);
-    let pilot_free = turned(free_hours);
-    let pilot_earned = turned(tariff_pay);
-    let pilot_share = turned(pay);
-    let share = grower_share(joint, pay);
-    let grower_unused = unused(grower_hours, tariff_hours, free_hours, n, m);
-    let pilot_unused = unused(pilot_hours, pilot_tariff, pilot_free, m, n);
-    let growers = parties(grower_unused, tariff_hours, free_hours, tariff_gain, share);
-    let pilots = parties(
-        pilot_unused,
-        pilot_tariff,
-        pilot_free,
-        pilot_earned,
-        pilot_share,
-    );
-    let rows = pair_rows(tariff_cap, free_cap, joint, tariff_hours, free_hours, pay);
-    first_wrong_deal(growers, pilots, rows, n, m)
 }
 
 fn deal_verdict(is_idle: bool, i: usize, j: usize, deal: Deal, count: usize) -> Verdict
@@ -223,20 +159,21 @@ fn deal_verdict(is_idle: bool, i: usize, j: usize, deal: Deal, count: usize) -> 
 
 // The verdict on the deal at a place: idle, or else it blocks.
 pub(crate) fn verdict_at(
-    grower_unused: [u16; 16],
-    pilot_unused: [u16; 16],
-    rows: [PairRow; 16],
+    ticket: &[u16],
+    settlement: &[u16],
     n: usize,
     m: usize,
     place: usize,
 ) -> Verdict
-    requires { ⌜ (n ≤ 16) × (m ≤ 16) × (place < 2 * (n * m)) ⌝ }
-    ensures { λ r. ⌜ r ≡ verdictIn «grower_unused» «pilot_unused» rows m place ⌝ }
+    requires { ⌜ Sized n m (now ticket) × (place < 2 * (n * m)) ⌝ }
+    ensures { λ r. ⌜ r ≡ dealVerdictAt (ticketOf (now (ticket .entry))) (settlementOf (now (settlement .entry))) place ⌝ }
 {
     let i = place / 2 / m;
     let j = place / 2 % m;
     let d = place % 2;
-    let row = rows[i];
-    let is_idle = idle_in(row, grower_unused[i], pilot_unused[j], j, d);
+    let grower = grower_at(ticket, settlement, i, m);
+    let pilot = pilot_at(ticket, settlement, j, n);
+    let pair = pair_at(ticket, settlement, i, j);
+    let is_idle = idle_in(pair, grower.unused, pilot.unused, d);
     deal_verdict(is_idle, i, j, deal_of(d), place + 1)
 }

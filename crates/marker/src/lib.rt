@@ -12,8 +12,8 @@ mod cheap_spares;
 mod deal_faults;
 mod judging;
 mod pair_faults;
+mod parties;
 mod party_hours;
-mod rows;
 mod tables;
 
 use crate::judging::judge;
@@ -92,14 +92,16 @@ pub(crate) struct Party {
     pub(crate) share: [u16; 16],
 }
 
-// A grower's pairs, a number for each pilot: both caps, the joint gain, the hours of both deals and the pay.
-pub(crate) struct PairRow {
-    pub(crate) tariff_cap: [u16; 16],
-    pub(crate) free_cap: [u16; 16],
-    pub(crate) joint: [u16; 16],
-    pub(crate) tariff_hours: [u16; 16],
-    pub(crate) free_hours: [u16; 16],
-    pub(crate) pay: [u16; 16],
+// A pair of a grower and a pilot: what the ticket says of it, and the settlement.
+pub(crate) struct Pair {
+    pub(crate) tariff_cap: u16,
+    pub(crate) tariff_gain: u16,
+    pub(crate) tariff_pay: u16,
+    pub(crate) free_cap: u16,
+    pub(crate) joint: u16,
+    pub(crate) tariff_hours: u16,
+    pub(crate) free_hours: u16,
+    pub(crate) pay: u16,
 }
 
 fn no_ticket() -> [u16; 1315]

@@ -1,12 +1,13 @@
 // Pairs: verdicts 2 to 4.
 ghost use mathlib.Core.Path.{_≡_};
 ghost use Prim.Native.Nat.{_+_, _*_, _<_, _≤_};
-ghost use lib.ListN.{getD};
 ghost use Rattle.grid.specs.First.{first};
-ghost use Rattle.marker.specs.Verdict.{payTest, pairTest, byPair};
-ghost use Rattle.marker.specs.Tables.{noPairs, pairTestIn, wrongPairIn, pairVerdictIn};
-use crate::PairRow;
+ghost use Rattle.marker.specs.View.{ticketOf, settlementOf};
+ghost use Rattle.marker.specs.Verdict.{payTest, byPair, wrongPair, pairVerdict};
+ghost use Rattle.marker.specs.Tables.{pairTestIn, pairVerdictIn};
+use crate::Pair;
 use crate::Verdict;
+use crate::tables::pair_at;
 
 fn wrong_pay(gain: u16, hours: u16, pay: u16) -> bool
     ensures { λ r. ⌜ r ≡ payTest gain hours pay ⌝ }
@@ -14,32 +15,11 @@ fn wrong_pay(gain: u16, hours: u16, pay: u16) -> bool
     gain < pay || (hours == 0 && 0 < pay)
 }
 
-fn wrong_pair(
-    tariff_hours: u16,
-    tariff_cap: u16,
-    free_hours: u16,
-    free_cap: u16,
-    pay: u16,
-    gain: u16,
-) -> bool
-    ensures { λ r. ⌜ r ≡ pairTest «tariff_hours» «tariff_cap» «free_hours» «free_cap» pay gain ⌝ }
+fn wrong_pair(pair: Pair) -> bool
+    ensures { λ r. ⌜ r ≡ pairTestIn pair ⌝ }
 {
-    tariff_cap < tariff_hours || (free_cap < free_hours || wrong_pay(gain, free_hours, pay))
-}
-
-// The same of a grower's pair with pilot j.
-fn wrong_in(row: PairRow, j: usize) -> bool
-    requires { ⌜ j < 16 ⌝ }
-    ensures { λ r. ⌜ r ≡ pairTestIn row j ⌝ }
-{
-    wrong_pair(
-        row.tariff_hours[j],
-        row.tariff_cap[j],
-        row.free_hours[j],
-        row.free_cap[j],
-        row.pay[j],
-        row.joint[j],
-    )
+    pair.tariff_cap < pair.tariff_hours
+        || (pair.free_cap < pair.free_hours || wrong_pay(pair.joint, pair.free_hours, pair.pay))
 }
 
 // How many pairs there are. The product is proved to fit here, once.
@@ -51,14 +31,13 @@ pub(crate) fn pairs(n: usize, m: usize) -> usize
 }
 
 // The first pair at fault, at place i * m + j.
-pub(crate) fn first_wrong_pair(rows: [PairRow; 16], n: usize, m: usize) -> usize
+pub(crate) fn first_wrong_pair(ticket: &[u16], settlement: &[u16], n: usize, m: usize) -> usize
     requires { ⌜ (n ≤ 16) × (m ≤ 16) ⌝ }
-    ensures { λ r. ⌜ r ≡ first (wrongPairIn rows m) (n * m) ⌝ }
+    ensures { λ r. ⌜ r ≡ first (byPair (wrongPair (ticketOf (now (ticket .entry))) (settlementOf (now (settlement .entry)))) m) (n * m) ⌝ }
 {
     for i in 0..n {
-        let row = rows[i];
         for j in 0..m {
-            if wrong_in(row, j) {
+            if wrong_pair(pair_at(ticket, settlement, i, j)) {
                 return pairs(i, m) + j;
             }
         }
@@ -66,18 +45,17 @@ pub(crate) fn first_wrong_pair(rows: [PairRow; 16], n: usize, m: usize) -> usize
     pairs(n, m)
 }
 
-// The verdict on the pair of grower i with pilot j.
-fn pair_verdict(row: PairRow, i: usize, j: usize) -> Verdict
-    requires { ⌜ j < 16 ⌝ }
-    ensures { λ r. ⌜ r ≡ pairVerdictIn row i j ⌝ }
+// The verdict on the pair of grower i and pilot j.
+fn pair_verdict(pair: Pair, i: usize, j: usize) -> Verdict
+    ensures { λ r. ⌜ r ≡ pairVerdictIn pair i j ⌝ }
 {
-    if row.tariff_cap[j] < row.tariff_hours[j] {
+    if pair.tariff_cap < pair.tariff_hours {
         return Verdict::TariffOverCap {
             grower: i,
             pilot: j,
         };
     }
-    if row.free_cap[j] < row.free_hours[j] {
+    if pair.free_cap < pair.free_hours {
         return Verdict::FreeOverCap {
             grower: i,
             pilot: j,
@@ -90,12 +68,17 @@ fn pair_verdict(row: PairRow, i: usize, j: usize) -> Verdict
 }
 
 // The verdict on the pair at a place.
-pub(crate) fn pair_verdict_at(rows: [PairRow; 16], n: usize, m: usize, place: usize) -> Verdict
+pub(crate) fn pair_verdict_at(
+    ticket: &[u16],
+    settlement: &[u16],
+    n: usize,
+    m: usize,
+    place: usize,
+) -> Verdict
     requires { ⌜ (n ≤ 16) × (m ≤ 16) × (place < n * m) ⌝ }
-    ensures { λ r. ⌜ r ≡ byPair (λ i j. pairVerdictIn (getD rows i noPairs) i j) m place ⌝ }
+    ensures { λ r. ⌜ r ≡ byPair (pairVerdict (ticketOf (now (ticket .entry))) (settlementOf (now (settlement .entry)))) m place ⌝ }
 {
     let i = place / m;
     let j = place % m;
-    let row = rows[i];
-    pair_verdict(row, i, j)
+    pair_verdict(pair_at(ticket, settlement, i, j), i, j)
 }

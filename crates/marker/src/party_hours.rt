@@ -1,11 +1,16 @@
-// Parties: verdicts 5 and 6, and free hours. A square has a row for each party; for pilots it is turned.
+// Parties: verdicts 5 and 6, and free hours.
 ghost use mathlib.Core.Path.{_≡_};
 ghost use Prim.Native.Nat.{_+_, _-_, _<_, _≤_};
 ghost use Rattle.grid.specs.First.{first};
-ghost use Rattle.marker.specs.Tables.{FilledRow, usedIn, overIn, unusedIn};
+ghost use Rattle.marker.specs.View.{ticketOf, settlementOf};
+ghost use Rattle.marker.specs.Tables.{usedIn, growerUsedIn, pilotUsedIn, growerOverIn, pilotOverIn};
+use crate::Quantity;
+use crate::parties::hours_of_pilot;
+use crate::parties::of_grower;
+use crate::parties::of_pilot;
 
 // A party's hours over all deals.
-fn used(tariff: [u16; 16], free: [u16; 16], partners: usize) -> u64
+pub(crate) fn used(tariff: [u16; 16], free: [u16; 16], partners: usize) -> u64
     requires { ⌜ partners ≤ 16 ⌝ }
     ensures { λ r. ⌜ r ≡ usedIn tariff free partners ⌝ }
 {
@@ -16,26 +21,8 @@ fn used(tariff: [u16; 16], free: [u16; 16], partners: usize) -> u64
     total
 }
 
-pub(crate) fn first_over(
-    hours: [u16; 16],
-    tariff: [[u16; 16]; 16],
-    free: [[u16; 16]; 16],
-    parties: usize,
-    partners: usize,
-) -> usize
-    requires { ⌜ (parties ≤ 16) × (partners ≤ 16) ⌝ }
-    ensures { λ r. ⌜ r ≡ first (overIn hours tariff free partners) parties ⌝ }
-{
-    for i in 0..parties {
-        if grid::wide(hours[i]) < used(tariff[i], free[i], partners) {
-            return i;
-        }
-    }
-    parties
-}
-
 // What is left of a party's own hours.
-fn left(hours: u16, used: u64) -> u16
+pub(crate) fn left(hours: u16, used: u64) -> u16
     ensures { λ r. ⌜ r ≡ hours - used ⌝ }
 {
     if used < grid::wide(hours) {
@@ -45,20 +32,48 @@ fn left(hours: u16, used: u64) -> u16
     }
 }
 
-// The free hours of each party.
-pub(crate) fn unused(
-    hours: [u16; 16],
-    tariff: [[u16; 16]; 16],
-    free: [[u16; 16]; 16],
-    parties: usize,
-    partners: usize,
-) -> [u16; 16]
-    requires { ⌜ (parties ≤ 16) × (partners ≤ 16) ⌝ }
-    ensures { λ r. ⌜ FilledRow (unusedIn hours tariff free partners) parties r ⌝ }
+// The hours of grower i over all deals with m pilots, and of pilot j over all deals with n growers.
+fn used_by_grower(settlement: &[u16], i: usize, m: usize) -> u64
+    requires { ⌜ (i < 16) × (m ≤ 16) ⌝ }
+    ensures { λ r. ⌜ r ≡ growerUsedIn (settlementOf (now (settlement .entry))) m i ⌝ }
 {
-    let mut r = grid::zero_row();
-    for i in 0..parties {
-        r[i] = left(hours[i], used(tariff[i], free[i], partners));
+    let tariff = of_grower(settlement, Quantity::TariffHours, i, m);
+    let free = of_grower(settlement, Quantity::FreeHours, i, m);
+    used(tariff, free, m)
+}
+
+fn used_by_pilot(settlement: &[u16], j: usize, n: usize) -> u64
+    requires { ⌜ (j < 16) × (n ≤ 16) ⌝ }
+    ensures { λ r. ⌜ r ≡ pilotUsedIn (settlementOf (now (settlement .entry))) n j ⌝ }
+{
+    let tariff = of_pilot(settlement, Quantity::TariffHours, j, n);
+    let free = of_pilot(settlement, Quantity::FreeHours, j, n);
+    used(tariff, free, n)
+}
+
+// The first grower over his hours, and the first pilot.
+pub(crate) fn first_grower_over(ticket: &[u16], settlement: &[u16], n: usize, m: usize) -> usize
+    requires { ⌜ (n ≤ 16) × (m ≤ 16) ⌝ }
+    ensures { λ r. ⌜ r ≡ first (growerOverIn (ticketOf (now (ticket .entry))) (settlementOf (now (settlement .entry))) m) n ⌝ }
+{
+    for i in 0..n {
+        let hours = grid::entry(ticket, 3 + i);
+        if grid::wide(hours) < used_by_grower(settlement, i, m) {
+            return i;
+        }
     }
-    r
+    n
+}
+
+pub(crate) fn first_pilot_over(ticket: &[u16], settlement: &[u16], n: usize, m: usize) -> usize
+    requires { ⌜ (n ≤ 16) × (m ≤ 16) ⌝ }
+    ensures { λ r. ⌜ r ≡ first (pilotOverIn (ticketOf (now (ticket .entry))) (settlementOf (now (settlement .entry))) n) m ⌝ }
+{
+    for j in 0..m {
+        let hours = hours_of_pilot(ticket, j);
+        if grid::wide(hours) < used_by_pilot(settlement, j, n) {
+            return j;
+        }
+    }
+    m
 }

@@ -1,12 +1,12 @@
-// Lists of numbers as squares and rows, and squares that are made of squares.
+// Lists of numbers as squares, rows and pairs.
 ghost use mathlib.Core.Path.{_≡_};
-ghost use Prim.Native.Nat.{_+_, _*_, _-_, _<_, min};
+ghost use Prim.Native.Nat.{_+_, _*_, _<_, min};
 ghost use lib.ListN.{getD};
-ghost use Rattle.grid.specs.Grid.{at};
 ghost use Rattle.grid.specs.Fill.{Filled};
-ghost use Rattle.grid.specs.First.{first};
 ghost use Rattle.marker.specs.View.{growersOf, pilotsOf, pairPlace, placeOf, quantityOf, growerHoursOf, pilotHoursOf};
-ghost use Rattle.marker.specs.Tables.{FilledRow};
+ghost use Rattle.marker.specs.View.{ticketOf, settlementOf};
+ghost use Rattle.marker.specs.Tables.{FilledRow, pairOf};
+use crate::Pair;
 use crate::Quantity;
 
 // As many of a list's growers, or pilots, as a square has room for.
@@ -45,20 +45,57 @@ fn place(quantity: Quantity, n: usize, m: usize, i: usize, j: usize) -> usize
     }
 }
 
+// How many growers, and how many pilots, a list tells of.
+pub(crate) fn growers(list: &[u16]) -> usize
+    ensures { λ r. ⌜ (r ≡ growersOf (now (list .entry))) × (r < 65536) ⌝ }
+{
+    grid::index(grid::entry(list, 1))
+}
+
+pub(crate) fn pilots(list: &[u16]) -> usize
+    ensures { λ r. ⌜ (r ≡ pilotsOf (now (list .entry))) × (r < 65536) ⌝ }
+{
+    grid::index(grid::entry(list, 2))
+}
+
+// A quantity of the pair of grower i and pilot j.
+pub(crate) fn quantity_at(list: &[u16], quantity: Quantity, i: usize, j: usize) -> u16
+    requires { ⌜ (i < 16) × (j < 16) ⌝ }
+    ensures { λ r. ⌜ r ≡ quantityOf quantity (now (list .entry)) i j ⌝ }
+{
+    let n = growers(list);
+    let m = pilots(list);
+    grid::entry(list, place(quantity, n, m, i, j))
+}
+
+// All quantities of a pair.
+pub(crate) fn pair_at(ticket: &[u16], settlement: &[u16], i: usize, j: usize) -> Pair
+    requires { ⌜ (i < 16) × (j < 16) ⌝ }
+    ensures { λ r. ⌜ r ≡ pairOf (ticketOf (now (ticket .entry))) (settlementOf (now (settlement .entry))) i j ⌝ }
+{
+    Pair {
+        tariff_cap: quantity_at(ticket, Quantity::TariffCap, i, j),
+        tariff_gain: quantity_at(ticket, Quantity::TariffGain, i, j),
+        tariff_pay: quantity_at(ticket, Quantity::TariffPay, i, j),
+        free_cap: quantity_at(ticket, Quantity::FreeCap, i, j),
+        joint: quantity_at(ticket, Quantity::JointGain, i, j),
+        tariff_hours: quantity_at(settlement, Quantity::TariffHours, i, j),
+        free_hours: quantity_at(settlement, Quantity::FreeHours, i, j),
+        pay: quantity_at(settlement, Quantity::Pay, i, j),
+    }
+}
+
 // A quantity of every pair, growers by pilots, as far as the square reaches.
 pub fn square(list: &[u16], quantity: Quantity) -> [[u16; 16]; 16]
     ensures { λ r. ⌜ Filled (quantityOf quantity (now (list .entry)))
         (min 16 (growersOf (now (list .entry)))) (min 16 (pilotsOf (now (list .entry)))) r ⌝ }
 {
-    let n = grid::index(grid::entry(list, 1));
-    let m = grid::index(grid::entry(list, 2));
-    let rows = within(n);
-    let columns = within(m);
+    let rows = within(growers(list));
+    let columns = within(pilots(list));
     let mut q = grid::zeros();
     for i in 0..rows {
         for j in 0..columns {
-            let p = place(quantity, n, m, i, j);
-            q[i][j] = grid::entry(list, p);
+            q[i][j] = quantity_at(list, quantity, i, j);
         }
     }
     q
@@ -80,44 +117,11 @@ fn row(list: &[u16], from: usize, count: usize) -> [u16; 16]
 pub fn grower_hours(ticket: &[u16]) -> [u16; 16]
     ensures { λ r. ⌜ FilledRow (growerHoursOf (now (ticket .entry))) (min 16 (growersOf (now (ticket .entry)))) r ⌝ }
 {
-    row(ticket, 3, grid::index(grid::entry(ticket, 1)))
+    row(ticket, 3, growers(ticket))
 }
 
 pub fn pilot_hours(ticket: &[u16]) -> [u16; 16]
     ensures { λ r. ⌜ FilledRow (pilotHoursOf (now (ticket .entry))) (min 16 (pilotsOf (now (ticket .entry)))) r ⌝ }
 {
-    let n = grid::index(grid::entry(ticket, 1));
-    row(ticket, 3 + n, grid::index(grid::entry(ticket, 2)))
-}
-
-// Pilots by growers.
-pub(crate) fn turned(sq: [[u16; 16]; 16]) -> [[u16; 16]; 16]
-    ensures { λ r. ⌜ Filled (λ i j. at sq j i) 16 16 r ⌝ }
-{
-    let mut q = grid::zeros();
-    for i in 0..grid::SIDE {
-        for j in 0..grid::SIDE {
-            q[i][j] = sq[j][i];
-        }
-    }
-    q
-}
-
-fn less(a: u16, b: u16) -> u16
-    ensures { λ r. ⌜ r ≡ a - b ⌝ }
-{
-    if b < a { a - b } else { 0 }
-}
-
-// What growers have of an hour of each free deal: the joint gain without the pilot's pay.
-pub(crate) fn grower_share(gain: [[u16; 16]; 16], pay: [[u16; 16]; 16]) -> [[u16; 16]; 16]
-    ensures { λ r. ⌜ Filled (λ i j. at gain i j - at pay i j) 16 16 r ⌝ }
-{
-    let mut q = grid::zeros();
-    for i in 0..grid::SIDE {
-        for j in 0..grid::SIDE {
-            q[i][j] = less(gain[i][j], pay[i][j]);
-        }
-    }
-    q
+    row(ticket, 3 + growers(ticket), pilots(ticket))
 }

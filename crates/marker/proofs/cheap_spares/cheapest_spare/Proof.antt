@@ -1,6 +1,6 @@
 -- `marker::cheapest_spare` meets its contract: the rows without the deal's own hours are what the definition counts, by `spare-there`.
 use native.Mathlib.Omega.{arith}
-use Rattle.marker.proofs.Parties.{spare-there}
+use Rattle.marker.proofs.PartyRows.{spare-there}
 use borrow.Author.Needs.{needs}
 use Rattle.marker.proofs.cheap_spares.cheapest_spare.Statement.{statement}
 use Rattle.marker.proofs.cheap_spares.cheapest_spare.Tie as tie

@@ -1,59 +1,33 @@
--- `marker::judge` meets its contract: the tables are the lists' ticket and settlement as far as these reach, and so have the same verdict.
-use mathlib.Core.Path.{_≡_, _∙_}
-use Prim.Native.Nat.{_≤_}
+-- `marker::judge` meets its contract: a place before the end is the first pair at fault; else hours and deals are judged.
+use mathlib.Core.Path.{_∙_}
 use native.Mathlib.Omega.{arith}
-use Rattle.marker.specs.View.{growersOf, pilotsOf, ticketOf, settlementOf}
-use Rattle.marker.proofs.SameVerdict.{judged-same}
-use Rattle.marker.proofs.Views.{ticket-in, settlement-in}
+use Rattle.marker.specs.View.{settlementOf}
+use Rattle.marker.proofs.Verdicts.{pair-judged, pairs-judged}
 use borrow.Author.Needs.{needs}
 use Rattle.marker.proofs.judging.judge.Statement.{statement}
 use Rattle.marker.proofs.judging.judge.Tie as tie
 
-judge-tables-requires : tie.Need-judge-tables-requires
-judge-tables-requires c κs = (
-  omega (
-    arith,
-    c .before .before .before .before .before .before .before .before .before .before .before .before .index .ensures .0,
-    c .before .before .before .before .before .before .before .before .before .before .before .before .before .entry .ensures,
-    c .before .before .before .before .before .before .before .before .before .before .before .before .before .before .before .before
-        .pre .0,
-  ),
-  omega (
-    arith,
-    c .before .before .before .before .before .before .before .before .before .before .index2 .ensures .0,
-    c .before .before .before .before .before .before .before .before .before .before .before .entry2 .ensures,
-    c .before .before .before .before .before .before .before .before .before .before .before .before .before .before .before .before
-        .pre .0,
-  ),
-)
+judge-hours-requires : tie.Need-judge-hours-requires
+judge-hours-requires c κs = record {
+  growers = c .before .before .before .before .growers .ensures .0;
+  pilots = c .before .before .before .pilots .ensures .0;
+  fewGrowers = omega arith;
+  fewPilots = omega arith;
+}
 
 returns : tie.Need-returns
 returns c =
-    let s = c .before .before .before .before .before .before .before .before .before .before .before .before .before .before .before
-    .before .before in
-    let list = s .args .ticket .now in
-    let n = c .before .before .before .before .before .before .before .before .before .before .before .before .before .index .result in
-    let m = c .before .before .before .before .before .before .before .before .before .before .before .index2 .result in
-    let en : n ≡ growersOf list =
-    c .before .before .before .before .before .before .before .before .before .before .before .before .before .index .ensures .0
-    ∙ c .before .before .before .before .before .before .before .before .before .before .before .before .before .before .entry
-    .ensures in
-    let em : m ≡ pilotsOf list =
-    c .before .before .before .before .before .before .before .before .before .before .before .index2 .ensures .0
-    ∙ c .before .before .before .before .before .before .before .before .before .before .before .before .entry2 .ensures in
-    let hn : n ≤ 16 = omega (arith, en, s .pre .0) in
-    let hm : m ≤ 16 = omega (arith, em, s .pre .0) in
-    c .judge-tables .ensures
-    ∙ judged-same (ticketOf list) _ (settlementOf (s .args .settlement .now)) _
-    (ticket-in list n m en em hn hm _ _ _ _ _ _ _
-    (c .before .before .before .before .before .before .before .before .before .before .grower-hours .ensures)
-    (c .before .before .before .before .before .before .before .before .before .pilot-hours .ensures)
-    (c .before .before .before .before .before .before .before .before .square .ensures)
-    (c .before .before .before .before .before .before .before .square2 .ensures)
-    (c .before .before .before .before .before .before .square3 .ensures)
-    (c .before .before .before .before .before .square4 .ensures) (c .before .before .before .before .square5 .ensures))
-    (settlement-in list n m en em hn hm (s .args .settlement .now) (s .pre .1 .0) (s .pre .1 .1) _ _ _
-    (c .before .before .before .square6 .ensures) (c .before .before .square7 .ensures) (c .before .square8 .ensures))
+    let a = c .before .before .before .before .before .before .before .before .args in
+    c .pair-verdict-at .ensures
+    ∙ pair-judged (a .ticket .now) (settlementOf (a .settlement .now)) _ _ (c .before .before .before .before .before .growers .ensures .0) (c .before .before .before .before .pilots .ensures .0) _
+    (c .before .before .before .first-wrong-pair .ensures) (omega arith)
+
+returns-2 : tie.Need-returns-2
+returns-2 c =
+    let a = c .before .before .before .before .before .before .before .before .args in
+    c .judge-hours .ensures
+    ∙ pairs-judged (a .ticket .now) (settlementOf (a .settlement .now)) _ _ (c .before .before .before .before .before .growers .ensures .0) (c .before .before .before .before .pilots .ensures .0) _
+    (c .before .before .before .first-wrong-pair .ensures) (omega arith)
 
 pub judge-spec : {M : Type 1} → statement M
 judge-spec =
@@ -64,14 +38,6 @@ judge-spec =
     (λ c κs. search needs)
     (λ c κs. search needs)
     (λ c κs. search needs)
-    (λ c κs. search needs)
-    (λ c κs. search needs)
-    (λ c κs. search needs)
-    (λ c κs. search needs)
-    (λ c κs. search needs)
-    (λ c κs. search needs)
-    (λ c κs. search needs)
-    (λ c κs. search needs)
-    (λ c κs. search needs)
-    judge-tables-requires
-    returns)
+    returns
+    judge-hours-requires
+    returns-2)

@@ -1,48 +1,32 @@
--- `marker::judge_hours` meets its contract: growers first, then pilots on turned squares, then deals.
+-- `marker::judge_hours` meets its contract: growers first, then pilots, then deals.
 use mathlib.Core.Path.{_∙_}
-use native.Mathlib.Omega.{arith}
-use Rattle.market.specs.Market.{Ticket, Settlement}
-use Rattle.marker.specs.Tables.{ticketIn, settlementIn}
-use Rattle.marker.proofs.Views.{first-pilot-over}
-use Rattle.marker.proofs.Verdicts.{grower-fault, pilot-fault, hours-pass}
+use Rattle.marker.specs.View.{settlementOf}
+use Rattle.marker.proofs.Verdicts.{grower-judged, pilot-judged, hours-judged}
 use borrow.Author.Needs.{needs}
 use Rattle.marker.proofs.judging.judge_hours.Statement.{statement}
 use Rattle.marker.proofs.judging.judge_hours.Tie as tie
 
-abbrev ticket : tie.Start → Ticket
-ticket c = let a = c .args in
-    ticketIn (a .n) (a .m) (a .grower-hours) (a .pilot-hours) (a .tariff-cap) (a .tariff-gain) (a .tariff-pay) (a .free-cap) (a .joint)
-
-abbrev settlement : tie.Start → Settlement
-settlement c = let a = c .args in settlementIn (a .tariff-hours) (a .free-hours) (a .pay)
-
 returns : tie.Need-returns
 returns c =
-    grower-fault (ticket (c .before .before)) (settlement (c .before .before)) _ (c .before .first-over .ensures) (c .if1 .taken)
+    let s = c .before .before .before .before in
+    let a = s .args in
+    grower-judged (a .ticket .now) (settlementOf (a .settlement .now)) (a .n) (a .m) (s .pre .growers) (s .pre .pilots) _
+    (c .before .first-grower-over .ensures) (c .if1 .taken)
 
 returns-2 : tie.Need-returns-2
 returns-2 c =
     let s = c .before .before .before .before .before .before in
     let a = s .args in
-    pilot-fault (ticket s) (settlement s) _
-    (c .before .before .before .before .before .first-over .ensures)
-    (c .before .before .before .before .if1 .left)
-    _
-    (c .before .first-over2 .ensures ∙ first-pilot-over (a .n) (a .m) (a .grower-hours) (a .pilot-hours) (a .tariff-cap) (a .tariff-gain)
-    (a .tariff-pay) (a .free-cap) (a .joint) (a .tariff-hours) (a .free-hours) (a .pay) (omega arith) (omega arith) _ _
-    (c .before .before .before .turned .ensures) (c .before .before .turned2 .ensures))
-    (c .if2 .taken)
+    pilot-judged (a .ticket .now) (settlementOf (a .settlement .now)) (a .n) (a .m) (s .pre .growers) (s .pre .pilots) _
+    (c .before .before .before .first-grower-over .ensures) (c .before .before .if1 .left) _ (c .before .first-pilot-over .ensures) (c .if2 .taken)
 
 returns-3 : tie.Need-returns-3
 returns-3 c =
     let s = c .before .before .before .before .before .before .before in
     let a = s .args in
     c .judge-deals .ensures
-    ∙ hours-pass (ticket s) (settlement s) _ (c .before .before .before .before .before .before .first-over .ensures)
-    (c .before .before .before .before .before .if1 .left) _ (c .before .before .first-over2 .ensures
-    ∙ first-pilot-over (a .n) (a .m) (a .grower-hours) (a .pilot-hours) (a .tariff-cap) (a .tariff-gain) (a .tariff-pay)
-    (a .free-cap) (a .joint) (a .tariff-hours) (a .free-hours) (a .pay) (omega arith) (omega arith) _ _
-    (c .before .before .before .before .turned .ensures) (c .before .before .before .turned2 .ensures)) (c .before .if2 .left)
+    ∙ hours-judged (a .ticket .now) (settlementOf (a .settlement .now)) (a .n) (a .m) (s .pre .growers) (s .pre .pilots) _
+    (c .before .before .before .before .first-grower-over .ensures) (c .before .before .before .if1 .left) _ (c .before .before .first-pilot-over .ensures) (c .before .if2 .left)
 
 pub judge-hours-spec : {M : Type 1} → statement M
 judge-hours-spec =
@@ -50,8 +34,6 @@ judge-hours-spec =
     (tie.spec
     (λ c κs. search needs)
     returns
-    (λ c κs. search needs)
-    (λ c κs. search needs)
     (λ c κs. search needs)
     returns-2
     (λ c κs. search needs)

@@ -8,8 +8,12 @@ use Rattle.marker.proofs.tables.grower_hours.Statement.{statement}
 use Rattle.marker.proofs.tables.grower_hours.Tie as tie
 
 returns : tie.Need-returns
-returns c =
-    row-as _ _ (min 16 (growersOf (c .before .before .before .before .args .ticket .now))) _ (omega arith) (c .row .ensures)
+returns c = row-as _ _ (min 16 (growersOf (c .before .before .before .args .ticket .now))) _ (omega arith) (c .row .ensures)
 
 pub grower-hours-spec : {M : Type 1} → statement M
-grower-hours-spec = tie.close (tie.spec (λ c κs. search needs) (λ c κs. search needs) (λ c κs. search needs) returns)
+grower-hours-spec =
+    tie.close
+    (tie.spec
+    (λ c κs. search needs)
+    (λ c κs. search needs)
+    returns)

@@ -1,24 +1,24 @@
--- `marker::square` meets its contract: the square is filled row by row; the number at a pair's place is its quantity.
+-- `marker::square` meets its contract: the square is filled row by row.
 use Prim.Native.Nat.{_-_, _≤_, min}
 use native.Mathlib.Omega.{arith}
 use Rattle.grid.proofs.Filling.{Part, part-start, part-put, part-row, part-end}
 use Rattle.marker.specs.View.{quantityOf, growersOf, pilotsOf}
-use Rattle.marker.proofs.Filling.{filled-as, quantity-at}
+use Rattle.marker.proofs.Filling.{filled-as}
 use borrow.Author.Needs.{needs}
 use Rattle.marker.proofs.tables.square.Statement.{statement}
 use Rattle.marker.proofs.tables.square.Tie as tie
 
 abbrev Inv-loop2 : tie.InvT-loop2
-Inv-loop2 list quantity n m rows columns q₀ i j₀ q j = (j ≤ columns) × Part (quantityOf quantity list) columns i j q
+Inv-loop2 list quantity rows columns q₀ i j₀ q j = (j ≤ columns) × Part (quantityOf quantity list) columns i j q
 
 abbrev μ-loop2 : tie.MeasureT-loop2
-μ-loop2 list quantity n m rows columns q₀ i j₀ q j = columns - j
+μ-loop2 list quantity rows columns q₀ i j₀ q j = columns - j
 
 abbrev Inv-loop : tie.InvT-loop
-Inv-loop list quantity n m rows columns q₀ i₀ q i = (i ≤ rows) × Part (quantityOf quantity list) columns i 0 q
+Inv-loop list quantity rows columns q₀ i₀ q i = (i ≤ rows) × Part (quantityOf quantity list) columns i 0 q
 
 abbrev μ-loop : tie.MeasureT-loop
-μ-loop list quantity n m rows columns q₀ i₀ q i = rows - i
+μ-loop list quantity rows columns q₀ i₀ q i = rows - i
 
 loop-holds : tie.Need-loop-holds Inv-loop2 μ-loop2 Inv-loop μ-loop
 loop-holds c = (omega arith, part-start _ _ _ (c .zeros .ensures .0) (c .zeros .ensures .1))
@@ -28,27 +28,16 @@ loop2-holds c = (omega arith, c .before .loop .inv .1)
 
 loop2-again : tie.Need-loop2-again Inv-loop2 μ-loop2 Inv-loop μ-loop
 loop2-again c =
-    let s = c .before .before .before .before .before .before .before .before .before .before .before .before .before .before in
-    let e = quantity-at (s .args .quantity) (s .args .list .now)
-    (c .before .before .before .before .before .before .before .before .before .before .before .index .result)
-    (c .before .before .before .before .before .before .before .before .before .index2 .result)
-    (c .before .before .before .before .before .loop .i) (c .before .before .before .loop2 .j) (c .before .place .result)
-    (c .entry3 .result) (omega arith) (omega arith) (c .before .place .ensures) (c .entry3 .ensures) in (
-      search needs,
-      part-put _ _ _ _ _ _ (omega arith) (omega arith) (omega arith) (omega arith) e
-          (c .before .before .before .loop2 .inv .1),
-    )
+    (omega arith, part-put _ _ _ _ _ _ (omega arith) (omega arith) (omega arith) (omega arith) (c .quantity-at .ensures) (c .before .before .loop2 .inv .1))
 
 loop-again : tie.Need-loop-again Inv-loop2 μ-loop2 Inv-loop μ-loop
 loop-again c = (omega arith, part-row _ _ _ _ _ (omega arith) (omega arith) (c .before .loop2 .inv .1))
 
 returns : tie.Need-returns Inv-loop2 μ-loop2 Inv-loop μ-loop
 returns c =
-    let s = c .before .before .before .before .before .before .before .before .before .before in
+    let s = c .before .before .before .before .before .before .before .before in
     let list = s .args .list .now in
-    filled-as (quantityOf (s .args .quantity) list)
-    (c .before .before .before .before .within .result)
-    (c .before .before .before .within2 .result)
+    filled-as (quantityOf (s .args .quantity) list) (c .before .before .before .before .before .within .result) (c .before .before .before .within2 .result)
     (min 16 (growersOf list)) (min 16 (pilotsOf list)) _ (omega arith) (omega arith)
     (part-end _ _ _ _ _ (omega arith) (omega arith) (c .before .loop .inv .1))
 
@@ -65,11 +54,8 @@ square-spec =
     (λ c κs. search needs)
     (λ c κs. search needs)
     (λ c κs. search needs)
-    (λ c κs. search needs)
-    (λ c κs. search needs)
     loop-holds
     loop2-holds
-    (λ c κs. search needs)
     (λ c κs. search needs)
     (λ c. omega arith)
     (λ c. omega arith)

@@ -1,27 +1,27 @@
 -- What the rows of a party say of its spares, and of a deal that is at fault.
 -- Assumes nothing.
-use Prim.Native.Nat.{ℕ, zero, suc, _+_, _*_, _<_, min}
-use mathlib.Core.Path.{_≡_, refl, sym, _∙_}
+use Prim.Native.Nat.{ℕ, zero, suc, _+_, _-_, _<_, min}
+use mathlib.Core.Path.{_≡_, refl, ap, _∙_}
 use mathlib.Core.Logic.{⊎-elim}
 use mathlib.Core.Bool.{Bool, true, false, cond, _||_}
-use mathlib.Core.List.{List, []}
+use mathlib.Core.List.{List}
 use native.Mathlib.Omega.{arith}
-use lib.Dec.{ltb, eqb}
+use lib.Dec.{eqb, ltb}
 use lib.ListN.{getD, set, length, List·getD-eq-default}
 use lib.Seq.{getD-set-same, getD-set-other, set-out}
 use borrow.Author.Tests.{eq-eqb, ne-eqb}
-use Rattle.grid.specs.Grid.{Grid}
 use Rattle.grid.proofs.Cases.{eq-or-ne, lt-or-le}
-use Rattle.grid.proofs.Places.{at-place, cell-place}
+use Rattle.grid.proofs.Sums.{sum-same}
 use Rattle.market.specs.declared.Deal.{Deal}
 use Rattle.market.specs.declared.Deal.the-variants.{Tariff, Free}
-use Rattle.marker.specs.declared.PairRow.{PairRow}
+use Rattle.market.specs.Market.{sumDeals}
+use Rattle.marker.specs.declared.Pair.{Pair}
 use Rattle.marker.specs.declared.Party.{Party}
 use Rattle.marker.specs.declared.Spare.{Spare}
 use Rattle.marker.specs.declared.Spare.the-variants.{Nothing}
 use Rattle.marker.specs.View.{growersOf, pilotsOf, pilotHoursOf}
 use Rattle.marker.specs.Verdict.{countIn, cheapestOf, besides, dealAt}
-use Rattle.marker.specs.Tables.{FilledRow, lines, usedIn, overIn, besideOwn, spareIn, noPairs, nobody, pairTestIn, wrongPairIn, idleIn, blocksIn, wrongIn, wrongDealIn}
+use Rattle.marker.specs.Tables.{FilledRow, PartyOf, lines, usedIn, besideOwn, spareIn, idleIn, blocksIn, wrongIn}
 use Rattle.marker.proofs.Spares.{cheapest-same}
 
 -- a row whose number at y is made 0; beyond its end it has zeros anyway
@@ -47,35 +47,49 @@ pub spare-there : (p : Party) (k d y : ℕ) → d < 2 → (s r : Spare) (tariff 
 spare-there p k d y h s r tariff free es et ef er =
     er ∙ rw (es, et, ef) (cheapest-same _ _ _ _ _ k (λ e l _. beside-lines (p .tariff) (p .free) d y h e l) (λ e l _. refl))
 
+-- the party of four rows
+module _ (k : ℕ) (tariff free : List ℕ) (hours : Deal → ℕ → ℕ) (ft : FilledRow (hours Tariff) k tariff)
+    (ff : FilledRow (hours Free) k free) where
+  pub used-is : (v : ℕ) → v ≡ usedIn tariff free k → v ≡ sumDeals hours k
+  used-is v e = e ∙ sum-same _ _ k (λ l h. omega (arith, ft .inner l h, ff .inner l h))
+
+  pub party-made : (earned share : List ℕ) (worth : Deal → ℕ → ℕ) → FilledRow (worth Tariff) k earned → FilledRow (worth Free) k share →
+      (own h v u : ℕ) → h ≡ own → v ≡ usedIn tariff free k → u ≡ h - v →
+      PartyOf (record { unused = u; tariff = tariff; free = free; earned = earned; share = share }) k (own - sumDeals hours k) hours worth
+  party-made earned share worth fe fs own h v u eh ev eu = record {
+    unused = omega (arith, eh, eu, used-is v ev);
+    hours = λ e l hl. hours-with e l hl;
+    earned = λ e l hl. earned-with e l hl;
+  }
+    where
+      hours-with : (e : Deal) (l : ℕ) → l < k → lines tariff free e l ≡ hours e l
+      hours-with Tariff l hl = ft .inner l hl
+      hours-with Free l hl = ff .inner l hl
+
+      earned-with : (e : Deal) (l : ℕ) → l < k → lines earned share e l ≡ worth e l
+      earned-with Tariff l hl = fe .inner l hl
+      earned-with Free l hl = fs .inner l hl
+
 -- a deal at fault, by what its tests gave
-first-holds : (a b r : Bool) → r ≡ a → r ≡ true → r ≡ (a || b)
+first-holds : (a b r : Bool) → r ≡ a → r ≡ true → true ≡ (a || b)
 first-holds a b r e h = rw (← e, h)
 
 second-decides : (a b r s : Bool) → r ≡ a → r ≡ false → s ≡ b → s ≡ (a || b)
 second-decides a b r s e h f = rw (← e, h) f
 
-module _ (g p : Party) (row : PairRow) (n m i j : ℕ) (d : Deal) (b : Bool) (eb : b ≡ idleIn row (g .unused) (p .unused) j d) where
-  pub wrong-idle : b ≡ true → b ≡ wrongIn g p row n m i j d
-  wrong-idle h = first-holds (idleIn row (g .unused) (p .unused) j d) (blocksIn g p row n m i j d) b eb h
+module _ (g p : Party) (q : Pair) (n m i j : ℕ) (d : Deal) (b : Bool) (eb : b ≡ idleIn q (g .unused) (p .unused) d) where
+  pub wrong-idle : b ≡ true → true ≡ wrongIn g p q n m i j d
+  wrong-idle h = first-holds (idleIn q (g .unused) (p .unused) d) (blocksIn q (spareIn g m d j) (spareIn p n d i) d) b eb h
 
-  pub wrong-blocks : b ≡ false → (r : Bool) → r ≡ blocksIn g p row n m i j d → r ≡ wrongIn g p row n m i j d
-  wrong-blocks h r e = second-decides (idleIn row (g .unused) (p .unused) j d) (blocksIn g p row n m i j d) b r eb h e
+  pub wrong-blocks : b ≡ false → (ofGrower ofPilot : Spare) (r : Bool) → ofGrower ≡ spareIn g m d j → ofPilot ≡ spareIn p n d i →
+      r ≡ blocksIn q ofGrower ofPilot d → r ≡ wrongIn g p q n m i j d
+  wrong-blocks h ofGrower ofPilot r eg ep er =
+      second-decides (idleIn q (g .unused) (p .unused) d) (blocksIn q (spareIn g m d j) (spareIn p n d i) d) b r eb h
+      (er ∙ ap (λ (s : Spare). blocksIn q s ofPilot d) eg ∙ ap (λ (s : Spare). blocksIn q (spareIn g m d j) s d) ep)
 
--- the tests at the place of a pair and of a deal
-pub pair-there : (rows : List PairRow) (m i j : ℕ) (r : Bool) → j < m → r ≡ pairTestIn (getD rows i noPairs) j →
-    wrongPairIn rows m (i * m + j) ≡ r
-pair-there rows m i j r h e = rw (cell-place m i j h .0, cell-place m i j h .1) (sym e)
-
-pub deal-there : (growers pilots : List Party) (rows : List PairRow) (n m i j d : ℕ) (r : Bool) → j < m → d < 2 →
-    r ≡ wrongIn (getD growers i nobody) (getD pilots j nobody) (getD rows i noPairs) n m i j (dealAt d) →
-    wrongDealIn growers pilots rows n m (2 * (i * m + j) + d) ≡ r
-deal-there growers pilots rows n m i j d r hj hd e =
-    at-place (λ i j d. wrongIn (getD growers i nobody) (getD pilots j nobody) (getD rows i noPairs) n m i j (dealAt d)) m i j d hj hd
-    ∙ sym e
-
-pub over-there : (hours : List ℕ) (tariff free : Grid) (k i a b : ℕ) → a ≡ getD hours i 0 →
-    b ≡ usedIn (getD tariff i []) (getD free i []) k → overIn hours tariff free k i ≡ ltb a b
-over-there hours tariff free k i a b ea eb = rw (ea, eb)
+-- the test of being over, on numbers that are the party's
+pub over-there : (own u h a b : ℕ) → h ≡ own → a ≡ h → b ≡ u → ltb own u ≡ ltb a b
+over-there own u h a b eh ea eb = rw (ea, eh, eb)
 
 -- the hours of pilots stand after those of growers
 pub pilot-row : (list : List ℕ) (n k : ℕ) (r : List ℕ) → n ≡ growersOf list → k ≡ pilotsOf list →

@@ -1,0 +1,31 @@
+-- `marker::pair_at` meets its contract: one number for each quantity.
+use borrow.Author.Needs.{needs}
+use Rattle.marker.proofs.tables.pair_at.Statement.{statement}
+use Rattle.marker.proofs.tables.pair_at.Tie as tie
+
+returns : tie.Need-returns
+returns c =
+    rw (
+      c .before .before .before .before .before .before .before .quantity-at .ensures,
+      c .before .before .before .before .before .before .quantity-at2 .ensures,
+      c .before .before .before .before .before .quantity-at3 .ensures,
+      c .before .before .before .before .quantity-at4 .ensures,
+      c .before .before .before .quantity-at5 .ensures,
+      c .before .before .quantity-at6 .ensures,
+      c .before .quantity-at7 .ensures,
+      c .quantity-at8 .ensures,
+    )
+
+pub pair-at-spec : {M : Type 1} → statement M
+pair-at-spec =
+    tie.close
+    (tie.spec
+    (λ c κs. search needs)
+    (λ c κs. search needs)
+    (λ c κs. search needs)
+    (λ c κs. search needs)
+    (λ c κs. search needs)
+    (λ c κs. search needs)
+    (λ c κs. search needs)
+    (λ c κs. search needs)
+    returns)
