@@ -70,9 +70,6 @@ pub judged-answer : (xs s list : List ℕ) (n m : ℕ) (v : Verdict) → n ≡ g
     v ≡ settlementMarked xs (settlementRead (growersOf xs) (pilotsOf xs) s)
 judged-answer xs s list n m v en em e f = rw (← en, ← em, e) f
 
-pub answer-shape : (s list : List ℕ) (n m : ℕ) → settlementRead n m s ≡ Numbers list → (growersOf list ≡ n) × (pilotsOf list ≡ m)
-answer-shape s list n m e = let a = settlement-shape n m s list e in (a .growers, a .pilots)
-
 -- the ticket's list
 pub refused-ticket : (t s zeros : List ℕ) (w : ℕ) → length zeros ≡ 1315 → Reply.Refused w ≡ reply (length zeros) (unpacked t) →
     Refused w ≡ marked t s

@@ -1,12 +1,12 @@
 -- Pairs and parties in market's terms: what the tests on them say of the ticket and the settlement.
 -- Assumes nothing.
-use Prim.Native.Nat.{ℕ, _+_, _*_, _-_, _<_}
+use Prim.Native.Nat.{ℕ, _+_, _*_, _-_, _/_, _%_, _<_}
 use mathlib.Core.Path.{_≡_, refl, sym, ap, _∙_}
 use mathlib.Core.Bool.{Bool, cond}
 use mathlib.Core.List.{List}
 use native.Mathlib.Omega.{arith}
-use Rattle.grid.specs.First.{byPlace}
-use Rattle.grid.proofs.Places.{cell-place, at-place}
+use Rattle.grid.specs.First.{first, byPlace}
+use Rattle.grid.proofs.Places.{inside, cell-place, at-place}
 use Rattle.market.specs.declared.Deal.{Deal}
 use Rattle.market.specs.declared.Deal.the-variants.{Tariff, Free}
 use Rattle.market.specs.Market.{Ticket, Settlement, cap}
@@ -14,15 +14,27 @@ use Rattle.marker.specs.declared.Pair.{Pair}
 use Rattle.marker.specs.declared.Party.{Party}
 use Rattle.marker.specs.declared.Verdict.the-variants.{Idle, Blocks}
 use Rattle.marker.specs.View.{growersOf, pilotsOf, ticketOf}
-use Rattle.marker.specs.Verdict.{byPair, dealAt, freeOfGrower, freeOfPilot, idle, wrongPair, wrongDeal, dealVerdict, dealFaultAt}
-use Rattle.marker.specs.Tables.{Sized, pairOf, hoursIn, capIn, pairTestIn, growerUsedIn, pilotUsedIn, GrowerIn, PilotIn}
+use Rattle.marker.specs.Verdict.{byPair, pairVerdict, dealAt, freeOfGrower, freeOfPilot, idle, wrongPair, wrongDeal, dealVerdict, dealFaultAt}
+use Rattle.marker.specs.Tables.{Sized, PairsOf, pairOf, pairAt, wrongPairIn, pairVerdictIn, hoursIn, capIn, pairTestIn, growerUsedIn, pilotUsedIn, GrowerIn, PilotIn}
 use Rattle.marker.specs.Tables.{idleIn, wrongIn}
 use Rattle.marker.proofs.Spares.{spare-same, test-same}
+use Rattle.marker.proofs.Walks.{first-same}
 
 -- the test of a pair, at its place
-pub pair-there : (t : Ticket) (x : Settlement) (m i j : ℕ) (q : Pair) (r : Bool) → j < m → q ≡ pairOf t x i j → r ≡ pairTestIn q →
-    byPair (wrongPair t x) m (i * m + j) ≡ r
-pair-there t x m i j q r h eq er = rw (cell-place m i j h .0, cell-place m i j h .1) (sym (er ∙ ap pairTestIn eq))
+pub pair-there : (pairs : List (List Pair)) (m i j : ℕ) (r : Bool) → j < m → r ≡ pairTestIn (pairAt pairs i j) →
+    wrongPairIn pairs m (i * m + j) ≡ r
+pair-there pairs m i j r h e = rw (cell-place m i j h .0, cell-place m i j h .1) (sym e)
+
+-- the walk over the pairs of a ticket and a settlement, and the verdict on one of them
+module _ (t : Ticket) (x : Settlement) (n m : ℕ) (pairs : List (List Pair)) (is : PairsOf t x n m pairs) where
+  pub first-pair : first (wrongPairIn pairs m) (n * m) ≡ first (byPair (wrongPair t x) m) (n * m)
+  first-pair = first-same _ _ (n * m)
+      (λ p h. let w = inside n m p h in ap pairTestIn (is (p / m) (w .grower) (p % m) (w .pilot)))
+
+  pub pair-verdict : (p : ℕ) → p < n * m →
+      byPair (λ i j. pairVerdictIn (pairAt pairs i j) i j) m p ≡ byPair (pairVerdict t x) m p
+  pair-verdict p h = let w = inside n m p h in
+      ap (λ (q : Pair). pairVerdictIn q (p / m) (p % m)) (is (p / m) (w .grower) (p % m) (w .pilot))
 
 module _ (t : Ticket) (x : Settlement) where
   hours-at : (d : Deal) (i j : ℕ) → hoursIn (pairOf t x i j) d ≡ x .hours d i j

@@ -44,14 +44,6 @@ module _ (test : ℕ → Bool) (k : ℕ) (found : ℕ → Verdict) (after : Verd
       (λ h. ((λ q l. s .before q (omega arith)), rw (le-ltb p k h) at e))
       (lt-or-le p k)
 
--- walks that agree at each place
-pub walk-same : (f g : ℕ → Bool) (k k′ : ℕ) (u v : ℕ → Verdict) (a b : Verdict) → k′ ≡ k → ((p : ℕ) → p < k → f p ≡ g p) →
-    ((p : ℕ) → p < k → u p ≡ v p) → a ≡ b → walk f k′ u a ≡ walk g k v b
-walk-same f g k k′ u v a b e same found after =
-    let p = first g k in
-    rw (e, first-same f g k same)
-    (⊎-elim (λ h. rw (lt-ltb p k h) (found p h)) (λ h. rw (le-ltb p k h) after) (lt-or-le p k))
-
 -- no place is at fault, and no pair
 pub none-pairs : (g : ℕ → ℕ → Bool) (n m : ℕ) → none (byPair g m) (n * m) ↔ ((i j : ℕ) → i < n → j < m → g i j ≡ false)
 none-pairs g n m = (

@@ -16,7 +16,7 @@ use Rattle.marker.specs.declared.Spare.{Spare}
 use Rattle.marker.specs.declared.Verdict.{Verdict}
 use Rattle.marker.specs.declared.Verdict.the-variants.{TariffOverCap, FreeOverCap, WrongPay}
 use Rattle.marker.specs.View.{byDeal, growersOf, pilotsOf}
-use Rattle.marker.specs.Verdict.{pairTest, idleTest, blocksTest, cheapestSpare}
+use Rattle.marker.specs.Verdict.{pairTest, idleTest, blocksTest, cheapestSpare, byPair}
 
 -- the first n numbers of a row are val 0, .., val (n - 1), the others 0
 pub record FilledRow (val : ℕ → ℕ) (n : ℕ) (r : List ℕ) : Type 0 where
@@ -46,6 +46,30 @@ pairOf t x i j = record {
   pay = x .pay i j;
 }
 
+-- no pair, where a row has ended
+abbrev pub noPair : Pair
+noPair = record {
+  «tariff_cap» = 0;
+  «tariff_gain» = 0;
+  «tariff_pay» = 0;
+  «free_cap» = 0;
+  joint = 0;
+  «tariff_hours» = 0;
+  «free_hours» = 0;
+  pay = 0;
+}
+
+-- the pair in a square of pairs
+abbrev pub pairAt : List (List Pair) → ℕ → ℕ → Pair
+pairAt pairs i j = getD (getD pairs i []) j noPair
+
+-- the row, and the square, of the pairs of m pilots and n growers
+abbrev pub PairsOfGrower : Ticket → Settlement → ℕ → ℕ → List Pair → Type 0
+PairsOfGrower t x m i row = (j : ℕ) → j < m → getD row j noPair ≡ pairOf t x i j
+
+abbrev pub PairsOf : Ticket → Settlement → ℕ → ℕ → List (List Pair) → Type 0
+PairsOf t x n m pairs = (i : ℕ) → i < n → PairsOfGrower t x m i (getD pairs i [])
+
 -- the hours and the cap of a deal
 abbrev pub hoursIn : Pair → Deal → ℕ
 hoursIn p = byDeal (p .«tariff_hours») (p .«free_hours»)
@@ -56,6 +80,10 @@ capIn p = byDeal (p .«tariff_cap») (p .«free_cap»)
 -- the test of a pair
 abbrev pub pairTestIn : Pair → Bool
 pairTestIn p = pairTest (p .«tariff_hours») (p .«tariff_cap») (p .«free_hours») (p .«free_cap») (p .pay) (p .joint)
+
+-- the test of pairs at place i * m + j
+abbrev pub wrongPairIn : List (List Pair) → ℕ → ℕ → Bool
+wrongPairIn pairs = byPair (λ i j. pairTestIn (pairAt pairs i j))
 
 -- the verdict on the pair of grower i and pilot j, if it is at fault
 abbrev pub pairVerdictIn : Pair → ℕ → ℕ → Verdict

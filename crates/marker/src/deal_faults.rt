@@ -5,7 +5,7 @@ ghost use Prim.Native.Nat.{_+_, _*_, _/_, _%_, _<_, _≤_};
 ghost use Rattle.grid.specs.First.{first};
 ghost use Rattle.marker.specs.View.{byDeal, ticketOf, settlementOf};
 ghost use Rattle.marker.specs.Verdict.{idleTest, blocksTest, dealAt, dealFaultAt, dealVerdictAt};
-ghost use Rattle.marker.specs.Tables.{Sized, idleIn, blocksIn, wrongIn};
+ghost use Rattle.marker.specs.Tables.{Sized, PairsOf, idleIn, blocksIn, wrongIn};
 ghost use Rattle.marker.specs.declared.Verdict.the-variants as Verdict;
 use crate::Pair;
 use crate::Party;
@@ -18,7 +18,6 @@ use crate::pair_faults::pairs;
 use crate::parties::all_pilots;
 use crate::parties::grower_at;
 use crate::parties::pilot_at;
-use crate::tables::pair_at;
 use market::Deal;
 
 fn deal_of(d: usize) -> Deal
@@ -116,8 +115,15 @@ fn deal_place(n: usize, m: usize, i: usize, j: usize, d: usize) -> usize
 }
 
 // The last walk: the first deal that is idle or blocks.
-pub(crate) fn first_wrong_deal(ticket: &[u16], settlement: &[u16], n: usize, m: usize) -> usize
+pub(crate) fn first_wrong_deal(
+    ticket: &[u16],
+    settlement: &[u16],
+    square: [[Pair; 16]; 16],
+    n: usize,
+    m: usize,
+) -> usize
     requires { ⌜ Sized n m (now ticket) ⌝ }
+    requires { ⌜ PairsOf (ticketOf (now ticket)) (settlementOf (now settlement)) n m square ⌝ }
     ensures { λ r. ⌜ r ≡ first (dealFaultAt (ticketOf (now (ticket .entry))) (settlementOf (now (settlement .entry)))) (2 * (n * m)) ⌝ }
 {
     let pilots = all_pilots(ticket, settlement, n, m);
@@ -126,7 +132,7 @@ pub(crate) fn first_wrong_deal(ticket: &[u16], settlement: &[u16], n: usize, m: 
         let grower = grower_at(ticket, settlement, i, m);
         for j in 0..m {
             let pilot = pilots[j];
-            let pair = pair_at(ticket, settlement, i, j);
+            let pair = square[i][j];
             for d in 0..2usize {
                 if wrong_deal(grower, pilot, pair, n, m, i, j, d) {
                     place = deal_place(n, m, i, j, d);
@@ -161,11 +167,14 @@ fn deal_verdict(is_idle: bool, i: usize, j: usize, deal: Deal, count: usize) -> 
 pub(crate) fn verdict_at(
     ticket: &[u16],
     settlement: &[u16],
+    square: [[Pair; 16]; 16],
     n: usize,
     m: usize,
     place: usize,
 ) -> Verdict
-    requires { ⌜ Sized n m (now ticket) × (place < 2 * (n * m)) ⌝ }
+    requires { ⌜ Sized n m (now ticket) ⌝ }
+    requires { ⌜ PairsOf (ticketOf (now ticket)) (settlementOf (now settlement)) n m square ⌝ }
+    requires { ⌜ place < 2 * (n * m) ⌝ }
     ensures { λ r. ⌜ r ≡ dealVerdictAt (ticketOf (now (ticket .entry))) (settlementOf (now (settlement .entry))) place ⌝ }
 {
     let i = place / 2 / m;
@@ -173,7 +182,7 @@ pub(crate) fn verdict_at(
     let d = place % 2;
     let grower = grower_at(ticket, settlement, i, m);
     let pilot = pilot_at(ticket, settlement, j, n);
-    let pair = pair_at(ticket, settlement, i, j);
+    let pair = square[i][j];
     let is_idle = idle_in(pair, grower.unused, pilot.unused, d);
     deal_verdict(is_idle, i, j, deal_of(d), place + 1)
 }

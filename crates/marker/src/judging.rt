@@ -4,34 +4,50 @@ ghost use Prim.Native.Nat.{_≤_};
 ghost use Rattle.marker.specs.View.{growersOf, pilotsOf};
 ghost use Rattle.marker.specs.View.{ticketOf, settlementOf};
 ghost use Rattle.marker.specs.Verdict.{dealsJudged, hoursJudged, judged};
-ghost use Rattle.marker.specs.Tables.{Sized};
+ghost use Rattle.marker.specs.Tables.{Sized, PairsOf};
+use crate::Pair;
 use crate::Verdict;
 use crate::deal_faults::first_wrong_deal;
 use crate::deal_faults::verdict_at;
 use crate::pair_faults::first_wrong_pair;
 use crate::pair_faults::pair_verdict_at;
 use crate::pair_faults::pairs;
+use crate::pairs::pair_square;
 use crate::party_hours::first_grower_over;
 use crate::party_hours::first_pilot_over;
 use crate::tables::growers;
 use crate::tables::pilots;
 
 // The last walk: verdicts 7 and 8, or sound.
-fn judge_deals(ticket: &[u16], settlement: &[u16], n: usize, m: usize) -> Verdict
+fn judge_deals(
+    ticket: &[u16],
+    settlement: &[u16],
+    square: [[Pair; 16]; 16],
+    n: usize,
+    m: usize,
+) -> Verdict
     requires { ⌜ Sized n m (now ticket) ⌝ }
+    requires { ⌜ PairsOf (ticketOf (now ticket)) (settlementOf (now settlement)) n m square ⌝ }
     ensures { λ r. ⌜ r ≡ dealsJudged (ticketOf (now (ticket .entry))) (settlementOf (now (settlement .entry))) ⌝ }
 {
-    let place = first_wrong_deal(ticket, settlement, n, m);
+    let place = first_wrong_deal(ticket, settlement, square, n, m);
     let end = 2 * pairs(n, m);
     if end <= place {
         return Verdict::Sound { count: end };
     }
-    verdict_at(ticket, settlement, n, m, place)
+    verdict_at(ticket, settlement, square, n, m, place)
 }
 
 // Growers over their hours, then pilots: verdicts 5 and 6; then deals.
-fn judge_hours(ticket: &[u16], settlement: &[u16], n: usize, m: usize) -> Verdict
+fn judge_hours(
+    ticket: &[u16],
+    settlement: &[u16],
+    square: [[Pair; 16]; 16],
+    n: usize,
+    m: usize,
+) -> Verdict
     requires { ⌜ Sized n m (now ticket) ⌝ }
+    requires { ⌜ PairsOf (ticketOf (now ticket)) (settlementOf (now settlement)) n m square ⌝ }
     ensures { λ r. ⌜ r ≡ hoursJudged (ticketOf (now (ticket .entry))) (settlementOf (now (settlement .entry))) ⌝ }
 {
     let grower = first_grower_over(ticket, settlement, n, m);
@@ -42,7 +58,7 @@ fn judge_hours(ticket: &[u16], settlement: &[u16], n: usize, m: usize) -> Verdic
     if pilot < m {
         return Verdict::PilotOverHours { pilot: pilot };
     }
-    judge_deals(ticket, settlement, n, m)
+    judge_deals(ticket, settlement, square, n, m)
 }
 
 // Pairs: verdicts 2 to 4; then hours and deals.
@@ -52,9 +68,10 @@ pub(crate) fn judge(ticket: &[u16], settlement: &[u16]) -> Verdict
 {
     let n = growers(ticket);
     let m = pilots(ticket);
-    let place = first_wrong_pair(ticket, settlement, n, m);
+    let square = pair_square(ticket, settlement, n, m);
+    let place = first_wrong_pair(square, n, m);
     if place < pairs(n, m) {
-        return pair_verdict_at(ticket, settlement, n, m, place);
+        return pair_verdict_at(square, n, m, place);
     }
-    judge_hours(ticket, settlement, n, m)
+    judge_hours(ticket, settlement, square, n, m)
 }

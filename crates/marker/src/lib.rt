@@ -12,6 +12,7 @@ mod cheap_spares;
 mod deal_faults;
 mod judging;
 mod pair_faults;
+mod pairs;
 mod parties;
 mod party_hours;
 mod tables;

@@ -2,12 +2,10 @@
 ghost use mathlib.Core.Path.{_≡_};
 ghost use Prim.Native.Nat.{_+_, _*_, _<_, _≤_};
 ghost use Rattle.grid.specs.First.{first};
-ghost use Rattle.marker.specs.View.{ticketOf, settlementOf};
-ghost use Rattle.marker.specs.Verdict.{payTest, byPair, wrongPair, pairVerdict};
-ghost use Rattle.marker.specs.Tables.{pairTestIn, pairVerdictIn};
+ghost use Rattle.marker.specs.Verdict.{payTest, byPair};
+ghost use Rattle.marker.specs.Tables.{pairAt, pairTestIn, wrongPairIn, pairVerdictIn};
 use crate::Pair;
 use crate::Verdict;
-use crate::tables::pair_at;
 
 fn wrong_pay(gain: u16, hours: u16, pay: u16) -> bool
     ensures { λ r. ⌜ r ≡ payTest gain hours pay ⌝ }
@@ -31,13 +29,14 @@ pub(crate) fn pairs(n: usize, m: usize) -> usize
 }
 
 // The first pair at fault, at place i * m + j.
-pub(crate) fn first_wrong_pair(ticket: &[u16], settlement: &[u16], n: usize, m: usize) -> usize
+pub(crate) fn first_wrong_pair(square: [[Pair; 16]; 16], n: usize, m: usize) -> usize
     requires { ⌜ (n ≤ 16) × (m ≤ 16) ⌝ }
-    ensures { λ r. ⌜ r ≡ first (byPair (wrongPair (ticketOf (now (ticket .entry))) (settlementOf (now (settlement .entry)))) m) (n * m) ⌝ }
+    ensures { λ r. ⌜ r ≡ first (wrongPairIn square m) (n * m) ⌝ }
 {
     for i in 0..n {
         for j in 0..m {
-            if wrong_pair(pair_at(ticket, settlement, i, j)) {
+            let pair = square[i][j];
+            if wrong_pair(pair) {
                 return pairs(i, m) + j;
             }
         }
@@ -68,17 +67,12 @@ fn pair_verdict(pair: Pair, i: usize, j: usize) -> Verdict
 }
 
 // The verdict on the pair at a place.
-pub(crate) fn pair_verdict_at(
-    ticket: &[u16],
-    settlement: &[u16],
-    n: usize,
-    m: usize,
-    place: usize,
-) -> Verdict
+pub(crate) fn pair_verdict_at(square: [[Pair; 16]; 16], n: usize, m: usize, place: usize) -> Verdict
     requires { ⌜ (n ≤ 16) × (m ≤ 16) × (place < n * m) ⌝ }
-    ensures { λ r. ⌜ r ≡ byPair (pairVerdict (ticketOf (now (ticket .entry))) (settlementOf (now (settlement .entry)))) m place ⌝ }
+    ensures { λ r. ⌜ r ≡ byPair (λ i j. pairVerdictIn (pairAt square i j) i j) m place ⌝ }
 {
     let i = place / m;
     let j = place % m;
-    pair_verdict(pair_at(ticket, settlement, i, j), i, j)
+    let pair = square[i][j];
+    pair_verdict(pair, i, j)
 }

@@ -1,12 +1,10 @@
-// Lists of numbers as squares, rows and pairs.
+// Lists of numbers as squares and rows.
 ghost use mathlib.Core.Path.{_≡_};
 ghost use Prim.Native.Nat.{_+_, _*_, _<_, min};
 ghost use lib.ListN.{getD};
 ghost use Rattle.grid.specs.Fill.{Filled};
 ghost use Rattle.marker.specs.View.{growersOf, pilotsOf, pairPlace, placeOf, quantityOf, growerHoursOf, pilotHoursOf};
-ghost use Rattle.marker.specs.View.{ticketOf, settlementOf};
-ghost use Rattle.marker.specs.Tables.{FilledRow, pairOf};
-use crate::Pair;
+ghost use Rattle.marker.specs.Tables.{FilledRow};
 use crate::Quantity;
 
 // As many of a list's growers, or pilots, as a square has room for.
@@ -66,23 +64,6 @@ pub(crate) fn quantity_at(list: &[u16], quantity: Quantity, i: usize, j: usize) 
     let n = growers(list);
     let m = pilots(list);
     grid::entry(list, place(quantity, n, m, i, j))
-}
-
-// All quantities of a pair.
-pub(crate) fn pair_at(ticket: &[u16], settlement: &[u16], i: usize, j: usize) -> Pair
-    requires { ⌜ (i < 16) × (j < 16) ⌝ }
-    ensures { λ r. ⌜ r ≡ pairOf (ticketOf (now (ticket .entry))) (settlementOf (now (settlement .entry))) i j ⌝ }
-{
-    Pair {
-        tariff_cap: quantity_at(ticket, Quantity::TariffCap, i, j),
-        tariff_gain: quantity_at(ticket, Quantity::TariffGain, i, j),
-        tariff_pay: quantity_at(ticket, Quantity::TariffPay, i, j),
-        free_cap: quantity_at(ticket, Quantity::FreeCap, i, j),
-        joint: quantity_at(ticket, Quantity::JointGain, i, j),
-        tariff_hours: quantity_at(settlement, Quantity::TariffHours, i, j),
-        free_hours: quantity_at(settlement, Quantity::FreeHours, i, j),
-        pay: quantity_at(settlement, Quantity::Pay, i, j),
-    }
 }
 
 // A quantity of every pair, growers by pilots, as far as the square reaches.

@@ -13,25 +13,25 @@ use Rattle.marker.proofs.deal_faults.first_wrong_deal.Statement.{statem
 use Rattle.marker.proofs.deal_faults.first_wrong_deal.Tie as tie
 
 abbrev Inv-loop2 : tie.InvT-loop2
-Inv-loop2 ticket settlement n m pilots place₀ i grower j pilot pair d₀ place d = (d ≤ 2) ×
+Inv-loop2 ticket settlement n m square pilots place₀ i grower j pilot pair d₀ place d = (d ≤ 2) ×
     none (dealFaultAt (ticketOf ticket) (settlementOf settlement)) (2 * (i * m + j) + d) × (place ≡ 2 * (n * m))
 
 abbrev μ-loop2 : tie.MeasureT-loop2
-μ-loop2 ticket settlement n m pilots place₀ i grower j pilot pair d₀ place d = 2 - d
+μ-loop2 ticket settlement n m square pilots place₀ i grower j pilot pair d₀ place d = 2 - d
 
 abbrev Inv-loop : tie.InvT-loop
-Inv-loop ticket settlement n m pilots place₀ i grower j₀ place j = (j ≤ m) ×
+Inv-loop ticket settlement n m square pilots place₀ i grower j₀ place j = (j ≤ m) ×
     none (dealFaultAt (ticketOf ticket) (settlementOf settlement)) (2 * (i * m + j)) × (place ≡ 2 * (n * m))
 
 abbrev μ-loop : tie.MeasureT-loop
-μ-loop ticket settlement n m pilots place₀ i grower j₀ place j = m - j
+μ-loop ticket settlement n m square pilots place₀ i grower j₀ place j = m - j
 
 abbrev Inv-search : tie.InvT-search
-Inv-search ticket settlement n m pilots place₀ i₀ place i = (i ≤ n) ×
+Inv-search ticket settlement n m square pilots place₀ i₀ place i = (i ≤ n) ×
     none (dealFaultAt (ticketOf ticket) (settlementOf settlement)) (2 * (i * m)) × (place ≡ 2 * (n * m))
 
 abbrev μ-search : tie.MeasureT-search
-μ-search ticket settlement n m pilots place₀ i₀ place i = n - i
+μ-search ticket settlement n m square pilots place₀ i₀ place i = n - i
 
 -- what the test gave at a deal is what the walk asks of its place
 there : (c : tie.After-wrong-deal Inv-loop2 μ-loop2 Inv-loop μ-loop Inv-search μ-search) → let a = c .before .before .before .before .before .before .before .before .before .before .before .before .before .before .args in
@@ -40,13 +40,13 @@ there : (c : tie.After-wrong-deal Inv-loop2 μ-loop2 Inv-loop μ-loop Inv-search
 there c =
     let s = c .before .before .before .before .before .before .before .before .before .before .before .before .before .before in
     let a = s .args in
-    deal-there (a .ticket .now) (settlementOf (a .settlement .now)) (a .n) (a .m) (s .pre) (c .before .before .before .before .before .before .before .before .before .search .i) (c .before .before .before .before .before .before .loop .j)
+    deal-there (a .ticket .now) (settlementOf (a .settlement .now)) (a .n) (a .m) (s .pre .0) (c .before .before .before .before .before .before .before .before .before .search .i) (c .before .before .before .before .before .before .loop .j)
     (c .before .before .before .before .before .before .before .before .search-test .taken) (c .before .before .before .before .before .loop-test .taken) _ _ (c .before .before .before .before .before .before .before .grower-at .ensures)
     (c .before .before .before .before .before .before .before .before .before .before .before .all-pilots .ensures (c .before .before .before .before .before .before .loop .j) (c .before .before .before .before .before .loop-test .taken)) (c .before .before .loop2 .d) (c .before .loop2-test .taken) _ _
-    (c .before .before .before .pair-at .ensures) (c .wrong-deal .ensures)
+    (s .pre .1 (c .before .before .before .before .before .before .before .before .before .search .i) (c .before .before .before .before .before .before .before .before .search-test .taken) (c .before .before .before .before .before .before .loop .j) (c .before .before .before .before .before .loop-test .taken)) (c .wrong-deal .ensures)
 
 deal-place-requires : tie.Need-deal-place-requires Inv-loop2 μ-loop2 Inv-loop μ-loop Inv-search μ-search
-deal-place-requires c κs = let z = c .before .before .before .before .before .before .before .before .before .before .before .before .before .before .before .pre in
+deal-place-requires c κs = let z = c .before .before .before .before .before .before .before .before .before .before .before .before .before .before .before .pre .0 in
     (z .fewGrowers, z .fewPilots, c .before .before .before .before .before .before .before .before .before .search-test .taken, c .before .before .before .before .before .before .loop-test .taken, c .before .before .loop2-test .taken)
 
 search-holds : tie.Need-search-holds Inv-loop2 μ-loop2 Inv-loop μ-loop Inv-search μ-search
@@ -110,7 +110,10 @@ first-wrong-deal-spec =
     loop-holds
     (λ c. omega arith)
     (λ c. omega arith)
-    (λ c κs. search needs)
+    (λ c. omega arith)
+    (λ c. omega arith)
+    (λ c. omega arith)
+    (λ c. omega arith)
     loop2-holds
     (λ c κs. search needs)
     deal-place-requires

@@ -1,38 +1,54 @@
 -- `marker::judge` meets its contract: a place before the end is the first pair at fault; else hours and deals are judged.
 use mathlib.Core.Path.{_∙_}
 use native.Mathlib.Omega.{arith}
-use Rattle.marker.specs.View.{settlementOf}
+use Rattle.marker.specs.View.{ticketOf, settlementOf}
+use Rattle.marker.proofs.Views.{first-pair, pair-verdict}
 use Rattle.marker.proofs.Verdicts.{pair-judged, pairs-judged}
 use borrow.Author.Needs.{needs}
 use Rattle.marker.proofs.judging.judge.Statement.{statement}
 use Rattle.marker.proofs.judging.judge.Tie as tie
 
 judge-hours-requires : tie.Need-judge-hours-requires
-judge-hours-requires c κs = record {
-  growers = c .before .before .before .before .growers .ensures .0;
-  pilots = c .before .before .before .pilots .ensures .0;
-  fewGrowers = omega arith;
-  fewPilots = omega arith;
-}
+judge-hours-requires c κs = (
+  record {
+    growers = c .before .before .before .before .before .growers .ensures .0;
+    pilots = c .before .before .before .before .pilots .ensures .0;
+    fewGrowers = omega arith;
+    fewPilots = omega arith;
+  },
+  c .before .before .before .pair-square .ensures,
+)
 
 returns : tie.Need-returns
 returns c =
-    let a = c .before .before .before .before .before .before .before .before .args in
+    let a = c .before .before .before .before .before .before .before .before .before .args in
+    let t = ticketOf (a .ticket .now) in
+    let x = settlementOf (a .settlement .now) in
+    let n = c .before .before .before .before .before .before .growers .result in
+    let m = c .before .before .before .before .before .pilots .result in
+    let square = c .before .before .before .before .pair-square .result in
+    let is = c .before .before .before .before .pair-square .ensures in
     c .pair-verdict-at .ensures
-    ∙ pair-judged (a .ticket .now) (settlementOf (a .settlement .now)) _ _ (c .before .before .before .before .before .growers .ensures .0) (c .before .before .before .before .pilots .ensures .0) _
-    (c .before .before .before .first-wrong-pair .ensures) (omega arith)
+    ∙ pair-verdict t x n m square is (c .before .before .before .first-wrong-pair .result) (omega arith)
+    ∙ pair-judged (a .ticket .now) x n m (c .before .before .before .before .before .before .growers .ensures .0) (c .before .before .before .before .before .pilots .ensures .0) _
+    (c .before .before .before .first-wrong-pair .ensures ∙ first-pair t x n m square is) (omega arith)
 
 returns-2 : tie.Need-returns-2
 returns-2 c =
-    let a = c .before .before .before .before .before .before .before .before .args in
+    let a = c .before .before .before .before .before .before .before .before .before .args in
+    let t = ticketOf (a .ticket .now) in
+    let x = settlementOf (a .settlement .now) in
+    let n = c .before .before .before .before .before .before .growers .result in
+    let m = c .before .before .before .before .before .pilots .result in
     c .judge-hours .ensures
-    ∙ pairs-judged (a .ticket .now) (settlementOf (a .settlement .now)) _ _ (c .before .before .before .before .before .growers .ensures .0) (c .before .before .before .before .pilots .ensures .0) _
-    (c .before .before .before .first-wrong-pair .ensures) (omega arith)
+    ∙ pairs-judged (a .ticket .now) x n m (c .before .before .before .before .before .before .growers .ensures .0) (c .before .before .before .before .before .pilots .ensures .0) _
+    (c .before .before .before .first-wrong-pair .ensures ∙ first-pair t x n m (c .before .before .before .before .pair-square .result) (c .before .before .before .before .pair-square .ensures)) (omega arith)
 
 pub judge-spec : {M : Type 1} → statement M
 judge-spec =
     tie.close
     (tie.spec
+    (λ c κs. search needs)
     (λ c κs. search needs)
     (λ c κs. search needs)
     (λ c κs. search needs)

@@ -11,18 +11,18 @@ returns : tie.Need-returns
 returns c =
     let s = c .before .before .before .before .before in
     let a = s .args in
-    deals-judged (a .ticket .now) (settlementOf (a .settlement .now)) (a .n) (a .m) (s .pre .growers) (s .pre .pilots) _ _
+    deals-judged (a .ticket .now) (settlementOf (a .settlement .now)) (a .n) (a .m) (s .pre .0 .growers) (s .pre .0 .pilots) _ _
     (c .before .pairs .ensures .0) (c .before .before .first-wrong-deal .ensures) (omega arith)
 
 verdict-at-requires : tie.Need-verdict-at-requires
-verdict-at-requires c κs = (c .before .before .before .before .before .pre, omega arith)
+verdict-at-requires c κs = (c .before .before .before .before .before .pre .0, (c .before .before .before .before .before .pre .1, omega arith))
 
 returns-2 : tie.Need-returns-2
 returns-2 c =
     let s = c .before .before .before .before .before .before in
     let a = s .args in
     c .verdict-at .ensures
-    ∙ deal-judged (a .ticket .now) (settlementOf (a .settlement .now)) (a .n) (a .m) (s .pre .growers) (s .pre .pilots) _
+    ∙ deal-judged (a .ticket .now) (settlementOf (a .settlement .now)) (a .n) (a .m) (s .pre .0 .growers) (s .pre .0 .pilots) _
     (c .before .before .before .first-wrong-deal .ensures) (omega arith)
 
 pub judge-deals-spec : {M : Type 1} → statement M

@@ -5,33 +5,29 @@ use native.Mathlib.Omega.{arith}
 use Rattle.grid.specs.First.{none}
 use Rattle.grid.proofs.FirstPlaces.{none-more, none-le, first-is}
 use Rattle.grid.proofs.Places.{row-next, row-within}
-use Rattle.marker.specs.View.{ticketOf, settlementOf}
-use Rattle.marker.specs.Verdict.{byPair, wrongPair}
+use Rattle.marker.specs.Tables.{wrongPairIn}
 use Rattle.marker.proofs.Views.{pair-there}
 use borrow.Author.Needs.{needs}
 use Rattle.marker.proofs.pair_faults.first_wrong_pair.Statement.{statement}
 use Rattle.marker.proofs.pair_faults.first_wrong_pair.Tie as tie
 
 abbrev Inv-loop2 : tie.InvT-loop2
-Inv-loop2 ticket settlement n m i j₀ j = (j ≤ m) ×
-    none (byPair (wrongPair (ticketOf ticket) (settlementOf settlement)) m) (i * m + j)
+Inv-loop2 n m square i j₀ j = (j ≤ m) × none (wrongPairIn square m) (i * m + j)
 
 abbrev μ-loop2 : tie.MeasureT-loop2
-μ-loop2 ticket settlement n m i j₀ j = m - j
+μ-loop2 n m square i j₀ j = m - j
 
 abbrev Inv-loop : tie.InvT-loop
-Inv-loop ticket settlement n m i₀ i = (i ≤ n) × none (byPair (wrongPair (ticketOf ticket) (settlementOf settlement)) m) (i * m)
+Inv-loop n m square i₀ i = (i ≤ n) × none (wrongPairIn square m) (i * m)
 
 abbrev μ-loop : tie.MeasureT-loop
-μ-loop ticket settlement n m i₀ i = n - i
+μ-loop n m square i₀ i = n - i
 
 -- what the test gave at a pair is what the walk asks of its place
-there : (c : tie.After-wrong-pair Inv-loop2 μ-loop2 Inv-loop μ-loop) → let a = c .before .before .before .before .before .before .before .before .args in
-    byPair (wrongPair (ticketOf (a .ticket .now)) (settlementOf (a .settlement .now))) (a .m) (c .before .before .before .before .before .loop .i * a .m + c .before .before .before .loop2 .j)
-    ≡ c .wrong-pair .result
-there c = let a = c .before .before .before .before .before .before .before .before .args in
-    pair-there (ticketOf (a .ticket .now)) (settlementOf (a .settlement .now)) (a .m) (c .before .before .before .before .before .loop .i) (c .before .before .before .loop2 .j)
-    (c .before .pair-at .result) _ (omega arith) (c .before .pair-at .ensures) (c .wrong-pair .ensures)
+there : (c : tie.After-wrong-pair Inv-loop2 μ-loop2 Inv-loop μ-loop) → let a = c .before .before .before .before .before .before .args in
+    wrongPairIn (a .t1) (a .m) (c .before .before .before .before .before .loop .i * a .m + c .before .before .before .loop2 .j) ≡ c .wrong-pair .result
+there c = let a = c .before .before .before .before .before .before .args in
+    pair-there (a .t1) (a .m) (c .before .before .before .before .before .loop .i) (c .before .before .before .loop2 .j) _ (omega arith) (c .wrong-pair .ensures)
 
 loop-holds : tie.Need-loop-holds Inv-loop2 μ-loop2 Inv-loop μ-loop
 loop-holds c = (omega arith, (λ q h. absurd (omega arith)))
@@ -42,7 +38,7 @@ loop2-holds c = (omega arith, none-le _ _ _ (c .before .loop .inv .1) (omega ari
 returns : tie.Need-returns Inv-loop2 μ-loop2 Inv-loop μ-loop
 returns c =
     let w = c .before .before in
-    let a = w .before .before .before .before .before .before .before .before .args in
+    let a = w .before .before .before .before .before .before .args in
     rw (c .pairs .ensures .0)
     (sym (first-is _ _ _ (omega (arith, row-within (w .before .before .before .before .before .loop .i) (a .n) (a .m) (omega arith))) (w .before .before .before .loop2 .inv .1)
     (λ _. there w ∙ c .before .if1 .taken)))
@@ -54,11 +50,11 @@ loop2-again c =
 
 loop-again : tie.Need-loop-again Inv-loop2 μ-loop2 Inv-loop μ-loop
 loop-again c =
-    (omega arith, none-le _ _ _ (c .before .loop2 .inv .1) (omega (arith, row-next (c .before .before .before .loop .i) (c .before .before .before .before .before .before .args .m))))
+    (omega arith, none-le _ _ _ (c .before .loop2 .inv .1) (omega (arith, row-next (c .before .before .before .loop .i) (c .before .before .before .before .args .m))))
 
 returns-2 : tie.Need-returns-2 Inv-loop2 μ-loop2 Inv-loop μ-loop
 returns-2 c =
-    let a = c .before .before .before .before .before .args in
+    let a = c .before .before .before .args in
     let e : c .before .before .loop .i ≡ a .n = omega arith in
     c .pairs2 .ensures .0
     ∙ sym (first-is _ _ _ (omega arith) (none-le _ _ _ (c .before .before .loop .inv .1) (omega (arith, ap (λ (k : ℕ). k * a .m) e)))
@@ -74,7 +70,10 @@ first-wrong-pair-spec =
     μ-loop
     loop-holds
     loop2-holds
-    (λ c κs. search needs)
+    (λ c. omega arith)
+    (λ c. omega arith)
+    (λ c. omega arith)
+    (λ c. omega arith)
     (λ c κs. search needs)
     (λ c κs. search needs)
     (λ c. omega arith)

@@ -1,7 +1,7 @@
 -- `marker::pair_at` meets its contract: one number for each quantity.
 use borrow.Author.Needs.{needs}
-use Rattle.marker.proofs.tables.pair_at.Statement.{statement}
-use Rattle.marker.proofs.tables.pair_at.Tie as tie
+use Rattle.marker.proofs.pairs.pair_at.Statement.{statement}
+use Rattle.marker.proofs.pairs.pair_at.Tie as tie
 
 returns : tie.Need-returns
 returns c =
