@@ -1,9 +1,10 @@
 // The marker's answer beside that of the plain search, field by field, and the count of what came of it.
-use super::plain::Answer;
-use super::plain::found;
-use super::plain::verdict;
 use marker::Verdict;
 use market::Deal;
+use plain::Answer;
+use plain::found;
+use plain::verdict;
+use report::front_bytes;
 
 // A tally's places: 0 for answers that differ, 1 to 8 for the verdicts that were compared, 9 for tickets, 10 for settlements
 // within the limits, 11 for those compared.
@@ -27,6 +28,10 @@ pub(crate) fn count(tally: &mut [usize; 12], place: usize) {
     if place < 12 {
         tally[place] = next(tally[place]);
     }
+}
+
+fn wide(x: u8) -> usize {
+    x as usize
 }
 
 fn number_of(deal: Deal) -> usize {
@@ -69,19 +74,23 @@ fn same(a: Answer, b: Answer) -> bool {
         && a.count == b.count
 }
 
+fn is_marked_so(ticket: &[u8], settlement: &[u8], wanted: Answer) -> bool {
+    same(wanted, answer(marker::mark(ticket, settlement)))
+}
+
 // A settlement judged by the plain search and by the marker.
-pub(crate) fn judge(ticket: &[u8; 16], settlement: &[u8; 9], tally: &mut [usize; 12]) {
+pub(crate) fn judge(ticket: &[u8], all: &[u8; 15], tally: &mut [usize; 12]) {
+    let settlement = front_bytes(all, 9);
     let wanted = verdict(ticket, settlement);
-    count(&mut *tally, COMPARED);
-    count(&mut *tally, wanted.number);
-    let given = answer(marker::mark(ticket, settlement));
-    if !same(wanted, given) {
+    count(&mut *tally, wide(wanted.number));
+    if !is_marked_so(ticket, settlement, wanted) {
         count(&mut *tally, DIFFERENT);
     }
+    count(tally, COMPARED);
 }
 
 // The same of a settlement within its ticket's limits.
-pub(crate) fn within(ticket: &[u8; 16], settlement: &[u8; 9], tally: &mut [usize; 12]) {
+pub(crate) fn within(ticket: &[u8], all: &[u8; 15], tally: &mut [usize; 12]) {
     count(&mut *tally, WITHIN);
-    judge(ticket, settlement, tally);
+    judge(ticket, all, tally);
 }

@@ -1,47 +1,44 @@
 // The search of each grid.
+use super::beyond;
 use super::compare;
 use super::compare::TICKETS;
 use super::compare::count;
 use super::compare::no_counts;
 use super::printed;
-use super::settlements;
-use super::tickets;
+use plain::Most;
+use report::front_bytes;
 
 // Every settlement within a ticket's limits. Each of six numbers takes at most three values, so there are at most 729.
-fn within_limits(ticket: &[u8; 16], tally: &mut [usize; 12]) {
-    let mut settlement = settlements::first(ticket);
+fn within_limits(ticket: &[u8], tally: &mut [usize; 12]) {
+    let mut settlement = plain::first_settlement(ticket);
     for turn in 0..1000usize {
         compare::within(ticket, &settlement, &mut *tally);
-        if !settlements::advance(&mut settlement, ticket) {
+        if !plain::next_settlement(&mut settlement, ticket) {
             return;
         }
     }
 }
 
-// Twelve beyond them: each number one above its limit, alone and with all that follow it.
-fn beyond_limits(ticket: &[u8; 16], tally: &mut [usize; 12]) {
-    for place in 3..9usize {
-        let alone = settlements::beyond(ticket, place, place + 1);
-        compare::judge(ticket, &alone, &mut *tally);
-        let with_the_rest = settlements::beyond(ticket, place, 9);
-        compare::judge(ticket, &with_the_rest, &mut *tally);
-    }
-}
-
-fn of_ticket(ticket: &[u8; 16], tally: &mut [usize; 12]) {
+fn of_ticket(file: &[u8; 27], tally: &mut [usize; 12]) {
+    let ticket = front_bytes(file, 16);
     count(&mut *tally, TICKETS);
     within_limits(ticket, &mut *tally);
-    beyond_limits(ticket, &mut *tally);
+    beyond::limits(ticket, tally);
 }
 
 // Every ticket of a grid, fewer than a million: 27 times the hours, and for each of two pairs 19 tariff deals and 7 free ones.
 // They have 27 * 1426 * 1426 settlements within their limits, 46 * 31 for the deals of a pair.
 fn of_grid(growers: u8, pilots: u8) -> [usize; 12] {
+    let most = Most {
+        hours: 2,
+        cap: 2,
+        amount: 2,
+    };
     let mut tally = no_counts();
-    let mut ticket = tickets::first(growers, pilots);
+    let mut ticket = plain::first_ticket(growers, pilots, 0);
     for turn in 0..1000000usize {
         of_ticket(&ticket, &mut tally);
-        if !tickets::advance(&mut ticket) {
+        if !plain::next_ticket(&mut ticket, 3, most) {
             return tally;
         }
     }

@@ -1,13 +1,9 @@
 // Compares the marker with a plain search: over every ticket of two small grids, and for each over every settlement within its
 // limits and some beyond them. The last line says how many of the marker's answers differ.
+mod beyond;
 mod compare;
 mod grids;
-mod numbers;
-mod plain;
 mod printed;
-mod settlements;
-mod spares;
-mod tickets;
 
 fn main() {
     grids::all();

@@ -4,16 +4,8 @@ use super::compare::DIFFERENT;
 use super::compare::TICKETS;
 use super::compare::WITHIN;
 use report::end_line;
-use report::number;
+use report::line;
 use report::text;
-
-fn line(x: usize, words: &[u8]) {
-    text(b"  ");
-    number(x);
-    text(b" ");
-    text(words);
-    end_line();
-}
 
 pub(crate) fn what_is_searched() {
     text(
@@ -25,11 +17,20 @@ pub(crate) fn what_is_searched() {
     );
 }
 
-fn verdicts(counts: [usize; 12]) {
+fn searched(counts: [usize; 12]) {
+    line(counts[TICKETS], b"tickets");
+    line(counts[WITHIN], b"settlements within their limits");
+    line(counts[COMPARED], b"settlements compared, of which");
     line(counts[1], b"sound");
+}
+
+fn faults_of_terms(counts: [usize; 12]) {
     line(counts[2], b"tariff hours over their cap");
     line(counts[3], b"free hours over their cap");
     line(counts[4], b"pay wrong");
+}
+
+fn faults_of_hours(counts: [usize; 12]) {
     line(counts[5], b"grower over his hours");
     line(counts[6], b"pilot over his hours");
     line(counts[7], b"idle");
@@ -39,9 +40,8 @@ fn verdicts(counts: [usize; 12]) {
 pub(crate) fn tally(name: &[u8], counts: [usize; 12]) {
     text(name);
     end_line();
-    line(counts[TICKETS], b"tickets");
-    line(counts[WITHIN], b"settlements within their limits");
-    line(counts[COMPARED], b"settlements compared, of which");
-    verdicts(counts);
+    searched(counts);
+    faults_of_terms(counts);
+    faults_of_hours(counts);
     line(counts[DIFFERENT], b"answered otherwise by the marker");
 }

@@ -39,6 +39,15 @@ pub fn end_line() {
     text(b"\n");
 }
 
+// A count and what it counts, on a line of its own.
+pub fn line(x: usize, words: &[u8]) {
+    text(b"  ");
+    number(x);
+    text(b" ");
+    text(words);
+    end_line();
+}
+
 // The first `count` bytes or numbers, all if there are fewer.
 pub fn front_bytes<'a>(s: &'a [u8], count: usize) -> &'a [u8]
     ensures { λ r. ⌜ now r ≡ take count (now (s .entry)) ⌝ }

@@ -4,10 +4,10 @@ use Rattle.marker_search.proofs.grids.of_grid.Statement.{statement}
 use Rattle.marker_search.proofs.grids.of_grid.Tie as tie
 
 abbrev Inv-loop : tie.InvT-loop
-Inv-loop growers pilots tally₀ ticket₀ turn₀ tally ticket turn = turn ≤ 1000000
+Inv-loop growers pilots most tally₀ ticket₀ turn₀ tally ticket turn = turn ≤ 1000000
 
 abbrev μ-loop : tie.MeasureT-loop
-μ-loop growers pilots tally₀ ticket₀ turn₀ tally ticket turn = 1000000 - turn
+μ-loop growers pilots most tally₀ ticket₀ turn₀ tally ticket turn = 1000000 - turn
 
 pub of-grid-spec : {M : Type 1} → statement M
 of-grid-spec =

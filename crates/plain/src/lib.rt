@@ -1,0 +1,22 @@
+// Small tickets, their settlements, and the verdict on a settlement by the words of the paper, for the searches of the test
+// programs. A ticket here has at most two growers and two pilots, and all numbers are below 128, so that a number is a byte.
+mod faults;
+mod numbers;
+mod settlements;
+mod spares;
+mod tickets;
+
+pub use faults::Answer;
+pub use faults::found;
+pub use faults::is_sound;
+pub use faults::verdict;
+pub use numbers::deals;
+pub use settlements::first_settlement;
+pub use settlements::limit;
+pub use settlements::next_settlement;
+pub use settlements::settlement_length;
+pub use tickets::Most;
+pub use tickets::first_ticket;
+pub use tickets::next_ticket;
+pub use tickets::pairs_begin;
+pub use tickets::ticket_length;
