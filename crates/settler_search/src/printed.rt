@@ -1,0 +1,61 @@
+// What was found in a grid.
+use super::tally::MARKER_ALONE;
+use super::tally::OTHER;
+use super::tally::OURS;
+use super::tally::PLAIN_ALONE;
+use super::tally::REFUSED;
+use super::tally::SOUND;
+use super::tally::TICKETS;
+use super::tally::UNSOUND;
+use super::tally::WRONG;
+use plain::Most;
+use report::end_line;
+use report::line;
+use report::number;
+use report::text;
+
+fn words(before: &[u8], x: u8) {
+    text(before);
+    number(x as usize);
+}
+
+fn parties(growers: u8, pilots: u8) {
+    words(b"", growers);
+    words(b" by ", pilots);
+}
+
+fn limits(most: Most) {
+    words(b" to ", most.hours);
+    words(b", caps to ", most.cap);
+    words(b", amounts to ", most.amount);
+}
+
+pub(crate) fn grid(growers: u8, pilots: u8, least_hours: u8, most: Most) {
+    parties(growers, pilots);
+    words(b", hours ", least_hours);
+    limits(most);
+    end_line();
+}
+
+fn sound(counts: [usize; 9]) {
+    line(counts[TICKETS], b"tickets");
+    line(counts[SOUND], b"settled soundly");
+    line(counts[MARKER_ALONE], b"by the marker alone");
+}
+
+fn unsound(counts: [usize; 9]) {
+    line(counts[PLAIN_ALONE], b"by the plain search alone");
+    line(counts[UNSOUND], b"by neither");
+    line(counts[REFUSED], b"refused");
+}
+
+pub(crate) fn tickets(counts: [usize; 9]) {
+    sound(counts);
+    unsound(counts);
+}
+
+pub(crate) fn settlements(counts: [usize; 9]) {
+    line(counts[OURS], b"of them met in the search");
+    line(counts[OTHER], b"other sound settlements");
+    line(counts[WRONG], b"unsound ones");
+}

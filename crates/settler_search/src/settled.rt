@@ -1,0 +1,43 @@
+// A ticket settled, and what the marker and the plain search say of it.
+use super::tally::MARKER_ALONE;
+use super::tally::PLAIN_ALONE;
+use super::tally::REFUSED;
+use super::tally::SOUND;
+use super::tally::UNSOUND;
+use marker::Verdict;
+use reader::Reply;
+use report::front_bytes;
+
+// Room for 3 + 4nm bytes with two growers and two pilots.
+pub(crate) fn no_bytes() -> [u8; 19] {
+    [0; 19]
+}
+
+fn wide(x: u8) -> usize {
+    x as usize
+}
+
+// Sound, with every deal looked at.
+fn is_marked_sound(ticket: &[u8], settlement: &[u8]) -> bool {
+    match marker::mark(ticket, settlement) {
+        Verdict::Sound { count } => count == wide(plain::deals(ticket)),
+        _ => false,
+    }
+}
+
+fn judged(ticket: &[u8], settlement: &[u8]) -> usize {
+    let plainly = plain::is_sound(ticket, settlement);
+    if is_marked_sound(ticket, settlement) {
+        if plainly { SOUND } else { MARKER_ALONE }
+    } else {
+        if plainly { PLAIN_ALONE } else { UNSOUND }
+    }
+}
+
+// Settles a ticket into the lent bytes. The answer is a place of the tally.
+pub(crate) fn of_ticket(ticket: &[u8], lent: &mut [u8; 19]) -> usize {
+    match settler::settle(ticket, &mut *lent) {
+        Reply::Refused { why } => REFUSED,
+        Reply::Done { count } => judged(ticket, front_bytes(lent, count)),
+    }
+}

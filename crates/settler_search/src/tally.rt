@@ -1,0 +1,34 @@
+// What is counted of a grid: tickets, by what was said of their settlements.
+pub(crate) const REFUSED: usize = 0;
+
+pub(crate) const UNSOUND: usize = 1;
+
+pub(crate) const MARKER_ALONE: usize = 2;
+
+pub(crate) const PLAIN_ALONE: usize = 3;
+
+pub(crate) const SOUND: usize = 4;
+
+// All of them.
+pub(crate) const TICKETS: usize = 5;
+
+// Of the settlements within a ticket's limits: the one that was settled, if it is sound, other sound ones, and unsound ones.
+pub(crate) const OURS: usize = 6;
+
+pub(crate) const OTHER: usize = 7;
+
+pub(crate) const WRONG: usize = 8;
+
+pub(crate) fn no_counts() -> [usize; 9] {
+    [0; 9]
+}
+
+fn next(x: usize) -> usize {
+    if x < 1000000000000 { x + 1 } else { x }
+}
+
+pub(crate) fn count(tally: &mut [usize; 9], place: usize) {
+    if place < 9 {
+        tally[place] = next(tally[place]);
+    }
+}
