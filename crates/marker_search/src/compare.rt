@@ -2,6 +2,7 @@
 use marker::Verdict;
 use market::Deal;
 use plain::Answer;
+use plain::count;
 use plain::found;
 use plain::verdict;
 use report::front_bytes;
@@ -15,20 +16,6 @@ pub(crate) const TICKETS: usize = 9;
 pub(crate) const WITHIN: usize = 10;
 
 pub(crate) const COMPARED: usize = 11;
-
-pub(crate) fn no_counts() -> [usize; 12] {
-    [0; 12]
-}
-
-fn next(x: usize) -> usize {
-    if x < 1000000000000 { x + 1 } else { x }
-}
-
-pub(crate) fn count(tally: &mut [usize; 12], place: usize) {
-    if place < 12 {
-        tally[place] = next(tally[place]);
-    }
-}
 
 fn wide(x: u8) -> usize {
     x as usize

@@ -2,10 +2,10 @@
 use super::beyond;
 use super::compare;
 use super::compare::TICKETS;
-use super::compare::count;
-use super::compare::no_counts;
 use super::printed;
 use plain::Most;
+use plain::count;
+use plain::no_counts;
 use report::front_bytes;
 
 // Every settlement within a ticket's limits. Each of six numbers takes at most three values, so there are at most 729.

@@ -4,6 +4,7 @@ mod faults;
 mod numbers;
 mod settlements;
 mod spares;
+mod tally;
 mod tickets;
 
 pub use faults::Answer;
@@ -15,6 +16,8 @@ pub use settlements::first_settlement;
 pub use settlements::limit;
 pub use settlements::next_settlement;
 pub use settlements::settlement_length;
+pub use tally::count;
+pub use tally::no_counts;
 pub use tickets::Most;
 pub use tickets::first_ticket;
 pub use tickets::next_ticket;

@@ -2,7 +2,7 @@
 use super::tally::OTHER;
 use super::tally::OURS;
 use super::tally::WRONG;
-use super::tally::count;
+use plain::count;
 use report::front_bytes;
 
 // Both are 0 past their end.
@@ -27,7 +27,7 @@ fn judged(ticket: &[u8], settlement: &[u8; 15], ours: &[u8; 19]) -> usize {
 }
 
 // There are fewer than a million.
-pub(crate) fn of_ticket(ticket: &[u8], ours: &[u8; 19], tally: &mut [usize; 9]) {
+pub(crate) fn of_ticket(ticket: &[u8], ours: &[u8; 19], tally: &mut [usize; 12]) {
     let mut settlement = plain::first_settlement(ticket);
     for turn in 0..1000000usize {
         count(&mut *tally, judged(ticket, &settlement, ours));

@@ -3,13 +3,13 @@ use super::every;
 use super::printed;
 use super::settled;
 use super::tally::TICKETS;
-use super::tally::count;
-use super::tally::no_counts;
 use plain::Most;
+use plain::count;
 use plain::first_ticket;
+use plain::no_counts;
 use report::front_bytes;
 
-fn of_ticket(file: &[u8; 27], with_every: bool, tally: &mut [usize; 9]) {
+fn of_ticket(file: &[u8; 27], with_every: bool, tally: &mut [usize; 12]) {
     let ticket = front_bytes(file, plain::ticket_length(file));
     let mut lent = settled::no_bytes();
     count(&mut *tally, settled::of_ticket(ticket, &mut lent));
@@ -19,7 +19,7 @@ fn of_ticket(file: &[u8; 27], with_every: bool, tally: &mut [usize; 9]) {
 }
 
 // Every ticket of a grid, fewer than ten million.
-fn of_grid(first: [u8; 27], from: usize, most: Most, with_every: bool) -> [usize; 9] {
+fn of_grid(first: [u8; 27], from: usize, most: Most, with_every: bool) -> [usize; 12] {
     let mut tally = no_counts();
     let mut ticket = first;
     for turn in 0..10000000usize {

@@ -37,24 +37,24 @@ pub(crate) fn grid(growers: u8, pilots: u8, least_hours: u8, most: Most) {
     end_line();
 }
 
-fn sound(counts: [usize; 9]) {
+fn sound(counts: [usize; 12]) {
     line(counts[TICKETS], b"tickets");
     line(counts[SOUND], b"settled soundly");
     line(counts[MARKER_ALONE], b"by the marker alone");
 }
 
-fn unsound(counts: [usize; 9]) {
+fn unsound(counts: [usize; 12]) {
     line(counts[PLAIN_ALONE], b"by the plain search alone");
     line(counts[UNSOUND], b"by neither");
     line(counts[REFUSED], b"refused");
 }
 
-pub(crate) fn tickets(counts: [usize; 9]) {
+pub(crate) fn tickets(counts: [usize; 12]) {
     sound(counts);
     unsound(counts);
 }
 
-pub(crate) fn settlements(counts: [usize; 9]) {
+pub(crate) fn settlements(counts: [usize; 12]) {
     line(counts[OURS], b"of them met in the search");
     line(counts[OTHER], b"other sound settlements");
     line(counts[WRONG], b"unsound ones");

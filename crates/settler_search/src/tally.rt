@@ -18,17 +18,3 @@ pub(crate) const OURS: usize = 6;
 pub(crate) const OTHER: usize = 7;
 
 pub(crate) const WRONG: usize = 8;
-
-pub(crate) fn no_counts() -> [usize; 9] {
-    [0; 9]
-}
-
-fn next(x: usize) -> usize {
-    if x < 1000000000000 { x + 1 } else { x }
-}
-
-pub(crate) fn count(tally: &mut [usize; 9], place: usize) {
-    if place < 9 {
-        tally[place] = next(tally[place]);
-    }
-}
