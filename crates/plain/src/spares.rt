@@ -1,6 +1,5 @@
 // The spares of a party, one by one. A source of spares is one of the deals, or the number after them: the party's own hours in
 // no deal.
-ghost use Prim.Native.Nat.{_<_};
 use super::numbers::deals;
 use super::numbers::earns;
 use super::numbers::grower_of;

@@ -1,4 +1,4 @@
-use Prim.Native.Nat.{_-_, _*_, _<_, _≤_}
+use Prim.Native.Nat.{_-_, _*_, _≤_}
 use borrow.Author.Needs.{needs}
 use Rattle.plain.proofs.spares.used.Statement.{statement}
 use Rattle.plain.proofs.spares.used.Tie as tie
