@@ -6,4 +6,5 @@ pub mod LineSums
 pub mod FirstPlaces
 pub mod Places
 pub mod Filling
+pub mod FilledRows
 pub mod Fronts

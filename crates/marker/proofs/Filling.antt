@@ -1,4 +1,4 @@
--- Filling rows, and reading the quantities of a list.
+-- Making parties one after another, and reading the quantities of a list.
 -- Assumes nothing.
 use Prim.Native.Nat.{ℕ, _+_, _<_, _≤_}
 use mathlib.Core.Path.{_≡_, _∙_}
@@ -11,32 +11,10 @@ use Rattle.grid.specs.Fill.{Filled}
 use Rattle.grid.proofs.Cases.{by-index}
 use Rattle.marker.specs.declared.Quantity.{Quantity}
 use Rattle.marker.specs.View.{growersOf, pilotsOf, placeOf, quantityOf}
-use Rattle.marker.specs.Tables.{FilledRow}
 
--- a square or a row whose extent is given by an equation
+-- a square whose extent is given by an equation
 pub filled-as : (val : ℕ → ℕ → ℕ) (n m n′ m′ : ℕ) (q : Grid) → n ≡ n′ → m ≡ m′ → Filled val n m q → Filled val n′ m′ q
 filled-as val n m n′ m′ q e f p = rw (e, f) at p
-
-pub row-as : (val : ℕ → ℕ) (n n′ : ℕ) (r : List ℕ) → n ≡ n′ → FilledRow val n r → FilledRow val n′ r
-row-as val n n′ r e p = rw e at p
-
-module _ (val : ℕ → ℕ) (r : List ℕ) where
-  pub row-start : Row r → ((j : ℕ) → getD r j 0 ≡ 0) → FilledRow val 0 r
-  row-start s z = record { row = s; inner = λ i h. absurd (omega arith); outer = λ i h. z i }
-
-  pub row-put : (i v : ℕ) → i < 16 → v < 65536 → v ≡ val i → FilledRow val i r → FilledRow val (i + 1) (set r i v)
-  row-put i v hi hv e p = record {
-    row = record {
-      long = length-set r i v ∙ p .row .long;
-      small = by-index (λ k. getD (set r i v) k 0 < 65536) i (rw (same) hv) (λ k n. rw (getD-set-other r i k v 0 n) (p .row .small k));
-    };
-    inner = by-index (λ k. k < i + 1 → getD (set r i v) k 0 ≡ val k) i (λ _. same ∙ e)
-        (λ k n h. getD-set-other r i k v 0 n ∙ p .inner k (omega arith));
-    outer = λ k h. getD-set-other r i k v 0 (λ f. omega arith) ∙ p .outer k (omega arith);
-  }
-    where
-      same : getD (set r i v) i 0 ≡ v
-      same = getD-set-same r i v 0 (omega (arith, p .row .long))
 
 -- the first i of sixteen parties have a property
 pub record Made {A : Type 0} (none : A) (P : ℕ → A → Type 0) (i : ℕ) (q : List A) : Type 0 where

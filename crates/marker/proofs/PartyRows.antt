@@ -21,7 +21,8 @@ use Rattle.marker.specs.declared.Spare.{Spare}
 use Rattle.marker.specs.declared.Spare.the-variants.{Nothing}
 use Rattle.marker.specs.View.{growersOf, pilotsOf, pilotHoursOf}
 use Rattle.marker.specs.Verdict.{countIn, cheapestOf, besides, dealAt}
-use Rattle.marker.specs.Tables.{FilledRow, PartyOf, lines, usedIn, besideOwn, spareIn, idleIn, blocksIn, wrongIn}
+use Rattle.grid.specs.Fill.{FilledRow}
+use Rattle.marker.specs.Tables.{PartyOf, lines, usedIn, besideOwn, spareIn, idleIn, blocksIn, wrongIn}
 use Rattle.marker.proofs.Spares.{cheapest-same}
 
 -- a row whose number at y is made 0; beyond its end it has zeros anyway

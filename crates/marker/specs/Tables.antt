@@ -18,12 +18,6 @@ use Rattle.marker.specs.declared.Verdict.the-variants.{TariffOverCap, Fr
 use Rattle.marker.specs.View.{byDeal, growersOf, pilotsOf}
 use Rattle.marker.specs.Verdict.{pairTest, idleTest, blocksTest, cheapestSpare, byPair}
 
--- the first n numbers of a row are val 0, .., val (n - 1), the others 0
-pub record FilledRow (val : ℕ → ℕ) (n : ℕ) (r : List ℕ) : Type 0 where
-  pub row : Row r
-  pub inner : (i : ℕ) → i < n → getD r i 0 ≡ val i
-  pub outer : (i : ℕ) → n ≤ i → getD r i 0 ≡ 0
-
 -- a ticket of n growers and m pilots, within the limits
 pub record Sized (n m : ℕ) (list : List ℕ) : Type 0 where
   pub growers : n ≡ growersOf list

@@ -4,7 +4,7 @@ ghost use Prim.Native.Nat.{_+_, _*_, _<_, min};
 ghost use lib.ListN.{getD};
 ghost use Rattle.grid.specs.Fill.{Filled};
 ghost use Rattle.marker.specs.View.{growersOf, pilotsOf, pairPlace, placeOf, quantityOf, growerHoursOf, pilotHoursOf};
-ghost use Rattle.marker.specs.Tables.{FilledRow};
+ghost use Rattle.grid.specs.Fill.{FilledRow};
 use crate::Quantity;
 
 // As many of a list's growers, or pilots, as a square has room for.

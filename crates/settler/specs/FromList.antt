@@ -12,7 +12,7 @@ use Rattle.reader.proofs.SettlementLaws.{SettlementShape}
 use Rattle.marker.specs.declared.Quantity.{Quantity}
 use Rattle.marker.specs.declared.Quantity.the-variants.{TariffCap, TariffGain, TariffPay, FreeCap, JointGain}
 use Rattle.marker.specs.View.{growersOf, pilotsOf, growerHoursOf, pilotHoursOf, quantityOf}
-use Rattle.marker.specs.Tables.{FilledRow}
+use Rattle.grid.specs.Fill.{FilledRow}
 use Rattle.settler.specs.Settled.{SoundNumbers}
 
 -- xs are the numbers of a ticket that passes its checks

@@ -4,8 +4,8 @@ use native.Mathlib.Omega.{arith}
 use Rattle.market.specs.Market.{earnedByGrower}
 use Rattle.market.specs.declared.Deal.the-variants.{Free}
 use Rattle.marker.specs.View.{ticketOf, settlementOf}
-use Rattle.marker.specs.Tables.{FilledRow}
-use Rattle.marker.proofs.Filling.{row-start, row-put, row-as}
+use Rattle.grid.specs.Fill.{FilledRow}
+use Rattle.grid.proofs.FilledRows.{row-start, row-put, row-as}
 use borrow.Author.Needs.{needs}
 use Rattle.marker.proofs.parties.share_of_grower.Statement.{statement}
 use Rattle.marker.proofs.parties.share_of_grower.Tie as tie

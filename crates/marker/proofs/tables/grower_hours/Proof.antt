@@ -2,7 +2,7 @@
 use Prim.Native.Nat.{min}
 use native.Mathlib.Omega.{arith}
 use Rattle.marker.specs.View.{growersOf}
-use Rattle.marker.proofs.Filling.{row-as}
+use Rattle.grid.proofs.FilledRows.{row-as}
 use borrow.Author.Needs.{needs}
 use Rattle.marker.proofs.tables.grower_hours.Statement.{statement}
 use Rattle.marker.proofs.tables.grower_hours.Tie as tie

@@ -2,8 +2,8 @@
 use Prim.Native.Nat.{_+_, _-_, _≤_}
 use native.Mathlib.Omega.{arith}
 use lib.ListN.{getD}
-use Rattle.marker.specs.Tables.{FilledRow}
-use Rattle.marker.proofs.Filling.{row-start, row-put, row-as}
+use Rattle.grid.specs.Fill.{FilledRow}
+use Rattle.grid.proofs.FilledRows.{row-start, row-put, row-as}
 use borrow.Author.Needs.{needs}
 use Rattle.marker.proofs.tables.row.Statement.{statement}
 use Rattle.marker.proofs.tables.row.Tie as tie
