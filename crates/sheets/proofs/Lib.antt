@@ -1,0 +1,4 @@
+pub mod TableRule
+pub mod PageWriting
+pub mod Spelling
+pub mod LineLaws

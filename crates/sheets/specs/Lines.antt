@@ -1,0 +1,15 @@
+-- The lines of a sheet.
+-- Assumes nothing.
+use Prim.Native.Nat.{ℕ, zero, suc}
+use mathlib.Core.List.{List, [], _∷_, _++_}
+use Rattle.sheets.specs.Decimal.{decimal}
+
+-- what stands after a number of a line: a space if more numbers follow, else the end of the line
+abbrev pub separator : List ℕ → ℕ
+separator [] = 10
+separator (x ∷ xs) = 32
+
+-- numbers in a line
+abbrev pub line : List ℕ → List ℕ
+line [] = []
+line (x ∷ xs) = decimal x ++ (separator xs ∷ line xs)

@@ -1,0 +1,60 @@
+-- The sheet of a settled ticket, and of a refused one, as bytes.
+-- Assumes nothing.
+use Prim.Native.Nat.{ℕ, zero, suc, _-_, _*_, _/_, _%_}
+use mathlib.Core.List.{List, [], _∷_, _++_}
+use mathlib.Core.Bool.{Bool, cond, _&&_}
+use lib.Dec.{eqb}
+use Rattle.market.specs.declared.Deal.the-variants.{Tariff, Free}
+use Rattle.market.specs.Market.{Ticket, Settlement}
+use Rattle.marker.specs.View.{ticketOf, settlementOf}
+use Rattle.marker.specs.Verdict.{judged, verdictCount}
+use Rattle.sheets.specs.Lines.{line}
+
+-- `SHEET `, `SOUND ` and `REFUSED `
+abbrev pub sheetWord : List ℕ
+sheetWord = 83 ∷ 72 ∷ 69 ∷ 69 ∷ 84 ∷ 32 ∷ []
+
+abbrev pub soundWord : List ℕ
+soundWord = 83 ∷ 79 ∷ 85 ∷ 78 ∷ 68 ∷ 32 ∷ []
+
+abbrev pub refusedWord : List ℕ
+refusedWord = 82 ∷ 69 ∷ 70 ∷ 85 ∷ 83 ∷ 69 ∷ 68 ∷ 32 ∷ []
+
+-- what the grower has of a free hour: the joint gain without the pilot's pay, 0 without free hours
+abbrev pub growerShare : ℕ → ℕ → ℕ → ℕ
+growerShare hours gain pay = cond (eqb hours 0) 0 (gain - pay)
+
+-- the numbers of the pair i j: grower, pilot, tariff hours, gain and pay of the tariff, free hours, the grower's share and the pilot's
+abbrev pub pairNumbers : ℕ → ℕ → ℕ → ℕ → ℕ → ℕ → ℕ → ℕ → List ℕ
+pairNumbers i j tariffHours tariffGain tariffPay freeHours jointGain pay =
+    i ∷ j ∷ tariffHours ∷ tariffGain ∷ tariffPay ∷ freeHours ∷ growerShare freeHours jointGain pay ∷ pay ∷ []
+
+-- a line for a pair with any hours
+abbrev pub lineIfHours : ℕ → ℕ → List ℕ → List ℕ
+lineIfHours tariffHours freeHours numbers = cond (eqb tariffHours 0 && eqb freeHours 0) [] (line numbers)
+
+-- the pair i j of a ticket that is settled
+abbrev pub pairLine : Ticket → Settlement → ℕ → ℕ → List ℕ
+pairLine t x i j =
+    lineIfHours (x .hours Tariff i j) (x .hours Free i j)
+    (pairNumbers i j (x .hours Tariff i j) (t .tariffGain i j) (t .tariffPay i j) (x .hours Free i j) (t .jointGain i j) (x .pay i j))
+
+-- the lines of the first k pairs, where the pair i j is at place i * m + j
+unfoldable pub pairLines : (ℕ → ℕ → List ℕ) → ℕ → ℕ → List ℕ
+pairLines lineOf m zero = []
+pairLines lineOf m (suc k) = pairLines lineOf m k ++ lineOf (k / m) (k % m)
+
+-- header, pairs, and last the marker's count
+abbrev pub settledText : Ticket → Settlement → List ℕ
+settledText t x =
+    sheetWord ++ line (t .growers ∷ t .pilots ∷ [])
+    ++ pairLines (pairLine t x) (t .pilots) (t .growers * t .pilots)
+    ++ (soundWord ++ line (verdictCount (judged t x) ∷ []))
+
+-- the sheet of a ticket's numbers and of a settlement's
+abbrev pub sheetText : List ℕ → List ℕ → List ℕ
+sheetText ticket settlement = settledText (ticketOf ticket) (settlementOf settlement)
+
+-- a refusal, alone
+abbrev pub refusedText : ℕ → List ℕ
+refusedText why = refusedWord ++ line (why ∷ [])
