@@ -2,3 +2,4 @@ pub mod TableRule
 pub mod PageWriting
 pub mod Spelling
 pub mod LineLaws
+pub mod PairLaws

@@ -55,7 +55,7 @@ fn pair_numbers(
     pay: [[u16; 16]; 16],
 ) -> [u16; 8]
     requires { ⌜ (i < 16) × (j < 16) ⌝ }
-    ensures { λ r. ⌜ r ≡ numbersIn tariff_hours tariff_gain tariff_pay free_hours joint_gain pay i j ⌝ }
+    ensures { λ r. ⌜ r ≡ numbersIn «tariff_hours» «tariff_gain» «tariff_pay» «free_hours» «joint_gain» pay i j ⌝ }
 {
     let hours = cell(free_hours, i, j);
     let share = cell(pay, i, j);
@@ -103,9 +103,9 @@ pub(crate) fn pair_lines(
     pay: [[u16; 16]; 16],
 ) -> usize
     requires { ⌜ (growers ≤ 16) × (pilots ≤ 16) × (at + 8192 ≤ pageBytes) ⌝ }
-    requires { ⌜ Printable growers pilots (numbersIn tariff_hours tariff_gain tariff_pay free_hours joint_gain pay) ⌝ }
+    requires { ⌜ Printable growers pilots (numbersIn «tariff_hours» «tariff_gain» «tariff_pay» «free_hours» «joint_gain» pay) ⌝ }
     ensures { λ r. ⌜ Wrote (now (page .entry)) (now (page .exit)) at r
-        (pairLines (lineIn tariff_hours tariff_gain tariff_pay free_hours joint_gain pay) pilots (growers * pilots)) ⌝ }
+        (pairLines (lineIn «tariff_hours» «tariff_gain» «tariff_pay» «free_hours» «joint_gain» pay) pilots (growers * pilots)) ⌝ }
 {
     let end = product(growers, pilots);
     let mut here = at;

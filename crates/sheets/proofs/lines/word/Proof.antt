@@ -7,7 +7,6 @@ use lib.ListN.{take}
 use borrow.Author.Needs.{needs}
 use Rattle.sheets.specs.Writing.{Wrote}
 use Rattle.sheets.proofs.PageWriting.{wrote-nothing, wrote-room, wrote-more, wrote-all}
-
 use Rattle.sheets.proofs.lines.word.Statement.{statement}
 use Rattle.sheets.proofs.lines.word.Tie as tie
 
