@@ -3,3 +3,4 @@ pub mod PageWriting
 pub mod Spelling
 pub mod LineLaws
 pub mod PairLaws
+pub mod SheetLaws

@@ -79,13 +79,16 @@ module _ (tariffHours tariffGain tariffPay freeHours jointGain pay : Grid) where
   abbrev lineOf : ℕ → ℕ → List ℕ
   lineOf = lineIn tariffHours tariffGain tariffPay freeHours jointGain pay
 
+  pub line-in-short : (i j : ℕ) → length (lineOf i j) ≤ 32
+  line-in-short i j = if-hours-short (at tariffHours i j) (at freeHours i j) (numbersOf i j)
+
   pub turn-fits : (n m p room : ℕ) (numbers : List ℕ) {l l₁ : List ℕ} {from at : ℕ} → Inside n m p → Printable n m numbersOf →
       numbers ≡ numbersOf (p / m) (p % m) → p < 256 → from + 8192 ≤ room → Wrote l l₁ from at (pairLines lineOf m p) →
       (length numbers ≡ 8) × ((k : ℕ) → getD numbers k 0 ≤ 500) × (at + 32 ≤ room)
   turn-fits n m p room numbers i h e few r w = (
     ap length e,
     λ k. rw e (h (p / m) (p % m) (i .grower) (i .pilot) k),
-    pair-room lineOf m p room (λ a b. if-hours-short (at tariffHours a b) (at freeHours a b) (numbersOf a b)) few r w,
+    pair-room lineOf m p room line-in-short few r w,
   )
 
   pub turn-writes : (m p : ℕ) (numbers : List ℕ) {l l₁ l₂ : List ℕ} {from at end : ℕ} → numbers ≡ numbersOf (p / m) (p % m) →

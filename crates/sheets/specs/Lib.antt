@@ -1,6 +1,8 @@
+-- The definitions that the contracts of `sheets` cite, each file over those above it.
 pub mod Decimal
 pub mod Writing
 pub mod Lines
 pub mod Sheet
 pub mod Squares
 pub mod Sheeted
+pub mod Printing

@@ -2,3 +2,4 @@
 mod digits;
 mod lines;
 mod pairs;
+mod settled;

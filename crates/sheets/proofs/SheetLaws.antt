@@ -1,0 +1,173 @@
+-- The sheet of a ticket and a sound settlement: its numbers are in the table, and written from squares it is the sheet of the lists.
+-- Assumes nothing.
+use mathlib.Core.Path.{_≡_, refl, sym, ap, _∙_}
+use mathlib.Core.Bool.{Bool, true, false, cond}
+use mathlib.Core.List.{List, [], _∷_, _++_}
+use Prim.Native.Nat.{ℕ, zero, suc, _+_, _*_, _-_, _≤_, _<_, min}
+use native.Mathlib.Nat.{min-eq-right}
+use native.Mathlib.Omega.{arith}
+use lib.Dec.{eqb}
+use lib.ListN.{length, getD}
+use Rattle.grid.specs.Grid.{Grid, at}
+use Rattle.grid.specs.Fill.{Filled}
+use Rattle.grid.proofs.Places.{prod-small}
+use Rattle.market.specs.declared.Deal.the-variants.{Tariff, Free}
+use Rattle.market.specs.Market.{Sound}
+use Rattle.reader.proofs.Facts.{unpacked-shape, unpacked-deal, settlement-shape}
+use Rattle.marker.specs.declared.Quantity.{Quantity}
+use Rattle.marker.specs.declared.Quantity.the-variants.{TariffCap, TariffGain, TariffPay, JointGain}
+use Rattle.marker.specs.declared.Quantity.the-variants.{TariffHours, FreeHours, Pay}
+use Rattle.marker.specs.declared.Verdict.{Verdict}
+use Rattle.marker.specs.View.{growersOf, pilotsOf, quantityOf, ticketOf, settlementOf}
+use Rattle.marker.specs.Verdict.{judged, verdictCount}
+use Rattle.marker.specs.Marked.{marked}
+use Rattle.marker.proofs.Marking.{sound-files-marked}
+use Rattle.sheets.specs.Writing.{pageBytes, Wrote}
+use Rattle.sheets.specs.Lines.{line}
+use Rattle.sheets.specs.Sheet.{sheetWord, soundWord, growerShare, pairNumbers, pairLine, pairLines, sheetText}
+use Rattle.sheets.specs.Squares.{numbersIn, lineIn, Printable}
+use Rattle.sheets.specs.Printing.{Settles}
+use Rattle.sheets.proofs.PageWriting.{wrote-then}
+use Rattle.sheets.proofs.LineLaws.{line-short}
+use Rattle.sheets.proofs.PairLaws.{same-lines, pairs-short, line-in-short}
+
+-- a share is at most the joint gain
+share-small : (hours gain pay : ℕ) → gain ≤ 500 → growerShare hours gain pay ≤ 500
+share-small hours gain pay h = go (eqb hours 0)
+  where
+    go : (b : Bool) → cond b 0 (gain - pay) ≤ 500
+    go true = omega arith
+    go false = omega arith
+
+-- eight numbers that are in the table
+all-small : (i j a b c d e f : ℕ) → i ≤ 500 → j ≤ 500 → a ≤ 500 → b ≤ 500 → c ≤ 500 → d ≤ 500 → e ≤ 500 → f ≤ 500 →
+    (k : ℕ) → getD (pairNumbers i j a b c d e f) k 0 ≤ 500
+all-small i j a b c d e f hi hj ha hb hc hd he hf zero = hi
+all-small i j a b c d e f hi hj ha hb hc hd he hf (suc zero) = hj
+all-small i j a b c d e f hi hj ha hb hc hd he hf (suc (suc zero)) = ha
+all-small i j a b c d e f hi hj ha hb hc hd he hf (suc (suc (suc zero))) = hb
+all-small i j a b c d e f hi hj ha hb hc hd he hf (suc (suc (suc (suc zero)))) = hc
+all-small i j a b c d e f hi hj ha hb hc hd he hf (suc (suc (suc (suc (suc zero))))) = hd
+all-small i j a b c d e f hi hj ha hb hc hd he hf (suc (suc (suc (suc (suc (suc zero)))))) = share-small d e f he
+all-small i j a b c d e f hi hj ha hb hc hd he hf (suc (suc (suc (suc (suc (suc (suc zero))))))) = hf
+all-small i j a b c d e f hi hj ha hb hc hd he hf (suc (suc (suc (suc (suc (suc (suc (suc k)))))))) = omega arith
+
+first-capped : (xs : List ℕ) (p : ℕ) → getD xs p 0 ≤ 60 → getD xs (p + 0) 0 ≤ 60
+first-capped xs p h = let e : p + 0 ≡ p = omega arith in rw e h
+
+-- the quantities of the lists in squares, as far as the market reaches
+pub record Squares (xs ys : List ℕ) (tariffHours tariffGain tariffPay freeHours jointGain pay : Grid) : Type 0 where
+  pub tariffHoursIn : Filled (quantityOf TariffHours ys) (min 16 (growersOf ys)) (min 16 (pilotsOf ys)) tariffHours
+  pub tariffGainIn : Filled (quantityOf TariffGain xs) (min 16 (growersOf xs)) (min 16 (pilotsOf xs)) tariffGain
+  pub tariffPayIn : Filled (quantityOf TariffPay xs) (min 16 (growersOf xs)) (min 16 (pilotsOf xs)) tariffPay
+  pub freeHoursIn : Filled (quantityOf FreeHours ys) (min 16 (growersOf ys)) (min 16 (pilotsOf ys)) freeHours
+  pub jointGainIn : Filled (quantityOf JointGain xs) (min 16 (growersOf xs)) (min 16 (pilotsOf xs)) jointGain
+  pub payIn : Filled (quantityOf Pay ys) (min 16 (growersOf ys)) (min 16 (pilotsOf ys)) pay
+
+module _ {ticket xs file ys : List ℕ} (s : Settles ticket xs file ys) where
+  pub few-growers : growersOf xs ≤ 16
+  few-growers = unpacked-shape ticket xs (s .unpacks) .growers .1
+
+  pub few-pilots : pilotsOf xs ≤ 16
+  few-pilots = unpacked-shape ticket xs (s .unpacks) .pilots .1
+
+  -- the marker counts all deals
+  pub all-deals-marked : marked ticket file ≡ Verdict.Sound (2 * (growersOf xs * pilotsOf xs))
+  all-deals-marked = sound-files-marked ticket file (record {
+    numbers = xs;
+    answer = ys;
+    isTicket = s .unpacks;
+    isSettlement = s .read;
+    sound = s .good .sound;
+  })
+
+  pub all-deals-judged : judged (ticketOf xs) (settlementOf ys) ≡ Verdict.Sound (2 * (growersOf xs * pilotsOf xs))
+  all-deals-judged = rw (s .unpacks, s .read) at all-deals-marked
+
+  pub count-small : verdictCount (judged (ticketOf xs) (settlementOf ys)) < 1000
+  count-small =
+      omega (arith, ap verdictCount all-deals-judged, prod-small (growersOf xs) (pilotsOf xs) few-growers few-pilots)
+
+  hours-small : (i j : ℕ) → i < growersOf xs → j < pilotsOf xs →
+      (quantityOf TariffHours ys i j ≤ 500) × (quantityOf FreeHours ys i j ≤ 500) × (quantityOf Pay ys i j ≤ 500)
+  hours-small i j hi hj =
+      let d = unpacked-deal ticket xs (s .unpacks) i j hi hj in
+      let f = s .good .sound .feasible in
+      let cap : quantityOf TariffCap xs i j ≤ 60 = first-capped xs (3 + growersOf xs + pilotsOf xs + 5 * (i * pilotsOf xs + j)) (d .tariffCapped) in
+      let tariff : quantityOf TariffHours ys i j ≤ quantityOf TariffCap xs i j = f .fits .deal Tariff i j hi hj in (
+        omega arith,
+        omega (arith, f .fits .deal Free i j hi hj, d .freeCapped),
+        omega (arith, f .payInGain i j hi hj, d .freeGainCapped),
+      )
+
+  amounts-small : (i j : ℕ) → i < growersOf xs → j < pilotsOf xs →
+      (quantityOf TariffGain xs i j ≤ 500) × (quantityOf TariffPay xs i j ≤ 500) × (quantityOf JointGain xs i j ≤ 500)
+  amounts-small i j hi hj =
+      let d = unpacked-deal ticket xs (s .unpacks) i j hi hj in (d .gainCapped, d .payCapped, d .freeGainCapped)
+
+  cell-is : (q : Quantity) (list : List ℕ) (g : Grid) → growersOf list ≡ growersOf xs → pilotsOf list ≡ pilotsOf xs →
+      Filled (quantityOf q list) (min 16 (growersOf list)) (min 16 (pilotsOf list)) g → (i j : ℕ) → i < growersOf xs → j < pilotsOf xs →
+      at g i j ≡ quantityOf q list i j
+  cell-is q list g eg ep f i j hi hj = f .inner i j (omega (arith, few-growers, eg)) (omega (arith, few-pilots, ep))
+
+  module _ (tariffHours tariffGain tariffPay freeHours jointGain pay : Grid)
+      (filled : Squares xs ys tariffHours tariffGain tariffPay freeHours jointGain pay) where
+    same-cells : (i j : ℕ) → i < growersOf xs → j < pilotsOf xs →
+        (at tariffHours i j ≡ quantityOf TariffHours ys i j) × (at tariffGain i j ≡ quantityOf TariffGain xs i j)
+        × (at tariffPay i j ≡ quantityOf TariffPay xs i j) × (at freeHours i j ≡ quantityOf FreeHours ys i j)
+        × (at jointGain i j ≡ quantityOf JointGain xs i j) × (at pay i j ≡ quantityOf Pay ys i j)
+    same-cells i j hi hj =
+        let a = settlement-shape (growersOf xs) (pilotsOf xs) file ys (s .read) in (
+          cell-is TariffHours ys tariffHours (a .growers) (a .pilots) (filled .tariffHoursIn) i j hi hj,
+          cell-is TariffGain xs tariffGain refl refl (filled .tariffGainIn) i j hi hj,
+          cell-is TariffPay xs tariffPay refl refl (filled .tariffPayIn) i j hi hj,
+          cell-is FreeHours ys freeHours (a .growers) (a .pilots) (filled .freeHoursIn) i j hi hj,
+          cell-is JointGain xs jointGain refl refl (filled .jointGainIn) i j hi hj,
+          cell-is Pay ys pay (a .growers) (a .pilots) (filled .payIn) i j hi hj,
+        )
+
+    pub squares-printable : Printable (growersOf xs) (pilotsOf xs) (numbersIn tariffHours tariffGain tariffPay freeHours jointGain pay)
+    squares-printable i j hi hj k =
+        let h = hours-small i j hi hj in
+        let a = amounts-small i j hi hj in
+        let e = same-cells i j hi hj in
+        all-small i j (at tariffHours i j) (at tariffGain i j) (at tariffPay i j) (at freeHours i j) (at jointGain i j) (at pay i j)
+        (omega (arith, few-growers)) (omega (arith, few-pilots)) (rw (e .0) (h .0)) (rw (e .1) (a .0)) (rw (e .2) (a .1))
+        (rw (e .3) (h .1)) (rw (e .4) (a .2)) (rw (e .5) (h .2)) k
+
+    pub squares-lines :
+        pairLines (lineIn tariffHours tariffGain tariffPay freeHours jointGain pay) (pilotsOf xs) (growersOf xs * pilotsOf xs)
+        ≡ pairLines (pairLine (ticketOf xs) (settlementOf ys)) (pilotsOf xs) (growersOf xs * pilotsOf xs)
+    squares-lines = same-lines _ _ (growersOf xs) (pilotsOf xs)
+        (λ i j hi hj. let e = same-cells i j hi hj in rw (e .0, e .1, e .2, e .3, e .4, e .5))
+
+    -- The three parts of the page: the header, the lines of the pairs from `next` on, and the last line from `last` on.
+    module _ {page page₁ : List ℕ} {next : ℕ} (n m : ℕ) (en : n ≡ growersOf xs) (em : m ≡ pilotsOf xs)
+        (headed : Wrote page page₁ 0 next (sheetWord ++ line (growersOf xs ∷ pilotsOf xs ∷ []))) where
+      near : next ≤ 14
+      near = omega (arith, headed .ends, line-short (growersOf xs ∷ pilotsOf xs ∷ []))
+
+      pub lines-fit : ((n ≤ 16) × (m ≤ 16) × (next + 8192 ≤ pageBytes))
+          × Printable n m (numbersIn tariffHours tariffGain tariffPay freeHours jointGain pay)
+      lines-fit = (
+        (omega (arith, en, few-growers), omega (arith, em, few-pilots), omega (arith, near)),
+        rw (en, em) squares-printable,
+      )
+
+      module _ {page₂ : List ℕ} {last count : ℕ} (marks : count ≡ verdictCount (judged (ticketOf xs) (settlementOf ys)))
+          (lined : Wrote page₁ page₂ next last (pairLines (lineIn tariffHours tariffGain tariffPay freeHours jointGain pay) m (n * m))) where
+        pub last-fits : (count < 1000) × (last + 6 + 4 ≤ pageBytes)
+        last-fits = (
+          omega (arith, marks, count-small),
+          omega (
+            arith,
+            near,
+            lined .ends,
+            prod-small n m (omega (arith, en, few-growers)) (omega (arith, em, few-pilots)),
+            pairs-short (lineIn tariffHours tariffGain tariffPay freeHours jointGain pay) m (n * m)
+                (λ i j. line-in-short tariffHours tariffGain tariffPay freeHours jointGain pay i j),
+          ),
+        )
+
+        pub sheet-whole : {page₃ : List ℕ} {end : ℕ} → Wrote page₂ page₃ last end (soundWord ++ line (count ∷ [])) → Wrote page page₃ 0 end (sheetText xs ys)
+        sheet-whole closed = wrote-then (wrote-then headed (rw (en, em, squares-lines) at lined)) (rw marks at closed)

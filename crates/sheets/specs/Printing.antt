@@ -1,0 +1,38 @@
+-- What the steps between a ticket's bytes and its sheet know and leave.
+-- Assumes nothing.
+use Prim.Native.Nat.{ℕ, _≤_}
+use mathlib.Core.Path.{_≡_}
+use mathlib.Core.List.{List}
+use lib.ListN.{length}
+use Rattle.reader.specs.Walk.{Outcome, Numbers}
+use Rattle.reader.specs.Answer.{unpacked, settlementRead}
+use Rattle.marker.specs.View.{growersOf, pilotsOf, ticketOf, settlementOf}
+use Rattle.marker.specs.Verdict.{judged, verdictCount}
+use Rattle.settler.specs.Settled.{SoundNumbers}
+use Rattle.sheets.specs.Writing.{pageBytes, Wrote}
+use Rattle.sheets.specs.Sheeted.{IsSheet}
+
+-- the numbers xs of a ticket's bytes, and the numbers ys of the file of a sound settlement of it
+pub record Settles (ticket xs file ys : List ℕ) : Type 0 where
+  pub unpacks : unpacked ticket ≡ Numbers xs
+  pub read : settlementRead (growersOf xs) (pilotsOf xs) file ≡ Numbers ys
+  pub good : SoundNumbers xs ys
+
+-- the same without the bytes, and the marker's count
+pub record Together (xs ys : List ℕ) (count : ℕ) : Type 0 where
+  pub ticket : List ℕ
+  pub file : List ℕ
+  pub settles : Settles ticket xs file ys
+  pub marks : count ≡ verdictCount (judged (ticketOf xs) (settlementOf ys))
+
+-- the file of some sound settlement of the ticket
+pub record SoundFile (ticket xs file : List ℕ) : Type 0 where
+  pub numbers : List ℕ
+  pub settles : Settles ticket xs file numbers
+
+-- a sheet of the ticket stands at the front of a page, and ends before the place `end`
+pub record Printed (ticket : Outcome) (page page′ : List ℕ) (end : ℕ) : Type 0 where
+  pub text : List ℕ
+  pub sheet : IsSheet ticket text
+  pub wrote : Wrote page page′ 0 end text
+  pub short : length text ≤ pageBytes
