@@ -4,3 +4,4 @@ pub mod Spelling
 pub mod LineLaws
 pub mod PairLaws
 pub mod SheetLaws
+pub mod PrintLaws

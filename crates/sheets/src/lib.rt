@@ -1,5 +1,128 @@
-// The sheet of a ticket: the text of its settlement.
-mod digits;
-mod lines;
-mod pairs;
-mod settled;
+// The sheet of a ticket: the ticket settled, as text, or its refusal. It is written into a page of its own and then copied, so that a
+// lent buffer that is too short stays as it was.
+mod digits; // digits.rt: numbers in decimal digits, amounts by a table
+mod lines; // lines.rt: bytes, words and lines in a page
+mod pairs; // pairs.rt: the lines of the pairs that have hours
+mod settled; // settled.rt: header, pairs and count
+
+ghost use mathlib.Core.Path.{_≡_};
+ghost use Prim.Native.Nat.{_≤_};
+ghost use lib.ListN.{length, take};
+ghost use Rattle.grid.specs.Front.{front};
+ghost use Rattle.reader.specs.Walk.{Numbers};
+ghost use Rattle.reader.specs.Answer.{unpacked};
+ghost use Rattle.sheets.specs.Writing.{pageBytes};
+ghost use Rattle.sheets.specs.Sheeted.{Sheeted};
+ghost use Rattle.sheets.specs.Printing.{SoundFile, Printed};
+use lines::counted;
+use reader::NO_ROOM;
+use reader::Reply;
+use settled::marked_deals;
+use settled::settled_text;
+
+// The bytes of a page, which has room for every sheet.
+pub const PAGE: usize = 8216;
+
+fn blank() -> [u8; 8216]
+    ensures { λ r. ⌜ length r ≡ pageBytes ⌝ }
+{
+    [0; PAGE]
+}
+
+fn no_numbers() -> [u16; 1315]
+    ensures { λ r. ⌜ length r ≡ 1315 ⌝ }
+{
+    [0; 1315]
+}
+
+fn no_settlement() -> [u16; 771]
+    ensures { λ r. ⌜ length r ≡ 771 ⌝ }
+{
+    [0; 771]
+}
+
+// Room for every settlement: three bytes, and four for each of 256 pairs.
+fn no_bytes() -> [u8; 1027]
+    ensures { λ r. ⌜ length r ≡ 1027 ⌝ }
+{
+    [0; 1027]
+}
+
+// The first `count` bytes, all if there are fewer.
+fn front_bytes<'a>(bytes: &'a [u8], count: usize) -> &'a [u8]
+    ensures { λ r. ⌜ now r ≡ take count (now (bytes .entry)) ⌝ }
+{
+    if count < bytes.len() {
+        &bytes[..count]
+    } else {
+        bytes
+    }
+}
+
+// The sheet of a ticket and of the file of a sound settlement of it. The file is always read.
+fn print_file(page: &mut [u8; 8216], ticket: &[u8], numbers: &[u16], file: &[u8]) -> usize
+    requires { ⌜ SoundFile (now ticket) (now numbers) (now file) ⌝ }
+    ensures { λ r. ⌜ Printed (Numbers (now (numbers .entry))) (now (page .entry)) (now (page .exit)) r ⌝ }
+{
+    let growers = grid::index(grid::entry(numbers, 1));
+    let pilots = grid::index(grid::entry(numbers, 2));
+    let mut list = no_settlement();
+    let reply = reader::read_settlement(file, growers, pilots, &mut list);
+    match reply {
+        Reply::Refused { why: _ } => 0,
+        Reply::Done { count } => settled_text(
+            page,
+            numbers,
+            grid::front(&list, count),
+            marked_deals(ticket, file),
+        ),
+    }
+}
+
+// The sheet of a ticket's numbers, which are always settled.
+fn print_settled(page: &mut [u8; 8216], ticket: &[u8], numbers: &[u16]) -> usize
+    requires { ⌜ unpacked (now ticket) ≡ Numbers (now numbers) ⌝ }
+    ensures { λ r. ⌜ Printed (Numbers (now (numbers .entry))) (now (page .entry)) (now (page .exit)) r ⌝ }
+{
+    let mut settlement = no_bytes();
+    let reply = settler::settle(ticket, &mut settlement);
+    match reply {
+        Reply::Refused { why: _ } => 0,
+        Reply::Done { count } => print_file(page, ticket, numbers, front_bytes(&settlement, count)),
+    }
+}
+
+// The sheet of a ticket's bytes.
+fn print(page: &mut [u8; 8216], ticket: &[u8]) -> usize
+    ensures { λ r. ⌜ Printed (unpacked (now (ticket .entry))) (now (page .entry)) (now (page .exit)) r ⌝ }
+{
+    let mut numbers = no_numbers();
+    let reply = reader::unpack(ticket, &mut numbers);
+    match reply {
+        Reply::Refused { why } => counted(page, 0, b"REFUSED ", why as usize),
+        Reply::Done { count } => print_settled(page, ticket, grid::front(&numbers, count)),
+    }
+}
+
+// The first bytes of a page, to the front of a buffer.
+fn copy(page: &[u8], text: &mut [u8], end: usize)
+    requires { ⌜ (end ≤ length (now page)) × (end ≤ length (now text)) ⌝ }
+    ensures { λ _. ⌜ now (text .exit) ≡ front (now (page .entry)) end (now (text .entry)) ⌝ }
+{
+    for k in 0..end {
+        text[k] = page[k];
+    }
+}
+
+// Writes the sheet of a ticket's bytes at the front of a lent buffer, and returns its length in bytes.
+pub fn sheet(ticket: &[u8], text: &mut [u8]) -> Reply
+    ensures { λ r. ⌜ Sheeted (unpacked (now (ticket .entry))) (now (text .entry)) (now (text .exit)) r ⌝ }
+{
+    let mut page = blank();
+    let end = print(&mut page, ticket);
+    if text.len() < end {
+        return Reply::Refused { why: NO_ROOM };
+    }
+    copy(&page, text, end);
+    Reply::Done { count: end }
+}
