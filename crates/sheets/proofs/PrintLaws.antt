@@ -2,57 +2,41 @@
 -- Assumes nothing.
 use mathlib.Core.Path.{_≡_, refl, sym, ap, _∙_}
 use mathlib.Core.List.{List, [], _∷_, _++_}
-use Prim.Native.Nat.{ℕ, _+_, _*_, _≤_, _<_}
-use native.Mathlib.Nat.{zero-add}
+use Prim.Native.Nat.{ℕ, _≤_, _<_}
 use native.Mathlib.Omega.{arith}
 use lib.ListN.{length, take, drop, length-append}
-use lib.Seq.{sets, length-sets, take-at}
+use lib.Seq.{length-sets, take-at}
 use Rattle.grid.specs.Front.{front}
 use Rattle.grid.proofs.Cases.{never}
 use Rattle.grid.proofs.Places.{prod-small}
 use Rattle.reader.specs.declared.Reply.{Reply}
 use Rattle.reader.specs.Refusals.{noRoom}
-use Rattle.reader.specs.Walk.{Outcome, Refusal, Numbers}
-use Rattle.reader.specs.Answer.{unpacked, settlementRead, reply, kept}
+use Rattle.reader.specs.Walk.{Outcome, Numbers}
+use Rattle.reader.specs.Answer.{unpacked, settlementRead, reply}
 use Rattle.reader.proofs.Facts.{unpacked-shape, settlement-shape, settlement-few, reply-with-room, reply-without-room, reply-refused}
 use Rattle.reader.proofs.Facts.{kept-with-room, kept-without-room, written-front}
-use Rattle.market.specs.declared.Deal.the-variants.{Tariff, Free}
-use Rattle.market.specs.Market.{Ticket, Settlement}
 use Rattle.marker.specs.declared.Verdict.{Verdict}
 use Rattle.marker.specs.View.{growersOf, pilotsOf, ticketOf, settlementOf}
 use Rattle.marker.specs.Verdict.{judged, verdictCount}
 use Rattle.marker.specs.Marked.{marked}
-use Rattle.settler.specs.Settled.{roomFor, SettledIn, Settled}
+use Rattle.settler.specs.Settled.{SettledIn, Settled}
 use Rattle.sheets.specs.Writing.{pageBytes, Wrote}
-use Rattle.sheets.specs.Lines.{line}
-use Rattle.sheets.specs.Sheet.{sheetWord, soundWord, pairNumbers, pairLine, pairLines, sheetText, refusedText}
+use Rattle.sheets.specs.Sheet.{headOf, linesOf, lastOf, sheetText, refusedText}
 use Rattle.sheets.specs.Sheeted.{Sheeted}
 use Rattle.sheets.specs.Printing.{Settles, Together, SoundFile, Printed}
 use Rattle.sheets.proofs.LineLaws.{line-short}
-use Rattle.sheets.proofs.PairLaws.{pairs-short, if-hours-short}
-use Rattle.sheets.proofs.SheetLaws.{few-growers, few-pilots, all-deals-marked, all-deals-judged}
-
-pair-line-short : (t : Ticket) (x : Settlement) (i j : ℕ) → length (pairLine t x i j) ≤ 32
-pair-line-short t x i j =
-    if-hours-short (x .hours Tariff i j) (x .hours Free i j)
-    (pairNumbers i j (x .hours Tariff i j) (t .tariffGain i j) (t .tariffPay i j) (x .hours Free i j) (t .jointGain i j) (x .pay i j))
+use Rattle.sheets.proofs.SheetLaws.{lines-short, few-growers, few-pilots, all-deals-marked, all-deals-judged}
 
 -- Every sheet fits a page.
 pub sheet-short : {ticket xs file ys : List ℕ} → Settles ticket xs file ys → length (sheetText xs ys) ≤ pageBytes
 sheet-short {ticket} {xs} {file} {ys} s =
-    let t = ticketOf xs in
-    let x = settlementOf ys in
-    let head = sheetWord ++ line (growersOf xs ∷ pilotsOf xs ∷ []) in
-    let lines = pairLines (pairLine t x) (pilotsOf xs) (growersOf xs * pilotsOf xs) in
-    let last = soundWord ++ line (verdictCount (judged t x) ∷ []) in
     omega (
       arith,
-      length-append (head ++ lines) last,
-      length-append head lines,
+      length-append (headOf xs ++ linesOf xs ys) (lastOf xs ys),
+      length-append (headOf xs) (linesOf xs ys),
       line-short (growersOf xs ∷ pilotsOf xs ∷ []),
-      line-short (verdictCount (judged t x) ∷ []),
-      prod-small (growersOf xs) (pilotsOf xs) (few-growers s) (few-pilots s),
-      pairs-short (pairLine t x) (pilotsOf xs) (growersOf xs * pilotsOf xs) (pair-line-short t x),
+      line-short (verdictCount (judged (ticketOf xs) (settlementOf ys)) ∷ []),
+      lines-short s,
     )
 
 -- The settlement's file is read: no refusal, and the list is that of the sound settlement.
@@ -76,9 +60,7 @@ module _ {ticket xs file : List ℕ} (f : SoundFile ticket xs file) (n m : ℕ) 
 
     pub read-together : (count : ℕ) → ((k : ℕ) → marked ticket file ≡ Verdict.Sound k → count ≡ k) → Together xs list count
     read-together count h = record {
-      ticket = ticket;
-      file = file;
-      settles = list-settles;
+      paired = record { ticket = ticket; file = file; settles = list-settles };
       marks = h _ (all-deals-marked list-settles) ∙ sym (ap verdictCount (all-deals-judged list-settles));
     }
 

@@ -1,10 +1,9 @@
 -- The sheet of a ticket and a sound settlement: its numbers are in the table, and written from squares it is the sheet of the lists.
 -- Assumes nothing.
-use mathlib.Core.Path.{_≡_, refl, sym, ap, _∙_}
+use mathlib.Core.Path.{_≡_, refl, ap}
 use mathlib.Core.Bool.{Bool, true, false, cond}
 use mathlib.Core.List.{List, [], _∷_, _++_}
 use Prim.Native.Nat.{ℕ, zero, suc, _+_, _*_, _-_, _≤_, _<_, min}
-use native.Mathlib.Nat.{min-eq-right}
 use native.Mathlib.Omega.{arith}
 use lib.Dec.{eqb}
 use lib.ListN.{length, getD}
@@ -12,7 +11,7 @@ use Rattle.grid.specs.Grid.{Grid, at}
 use Rattle.grid.specs.Fill.{Filled}
 use Rattle.grid.proofs.Places.{prod-small}
 use Rattle.market.specs.declared.Deal.the-variants.{Tariff, Free}
-use Rattle.market.specs.Market.{Sound}
+use Rattle.market.specs.Market.{Ticket, Settlement}
 use Rattle.reader.proofs.Facts.{unpacked-shape, unpacked-deal, settlement-shape}
 use Rattle.marker.specs.declared.Quantity.{Quantity}
 use Rattle.marker.specs.declared.Quantity.the-variants.{TariffCap, TariffGain, TariffPay, JointGain}
@@ -24,12 +23,12 @@ use Rattle.marker.specs.Marked.{marked}
 use Rattle.marker.proofs.Marking.{sound-files-marked}
 use Rattle.sheets.specs.Writing.{pageBytes, Wrote}
 use Rattle.sheets.specs.Lines.{line}
-use Rattle.sheets.specs.Sheet.{sheetWord, soundWord, growerShare, pairNumbers, pairLine, pairLines, sheetText}
+use Rattle.sheets.specs.Sheet.{soundWord, growerShare, pairNumbers, pairLine, pairLines, headOf, linesOf, sheetText}
 use Rattle.sheets.specs.Squares.{numbersIn, lineIn, Printable}
-use Rattle.sheets.specs.Printing.{Settles}
+use Rattle.sheets.specs.Printing.{Settles, Together}
 use Rattle.sheets.proofs.PageWriting.{wrote-then}
 use Rattle.sheets.proofs.LineLaws.{line-short}
-use Rattle.sheets.proofs.PairLaws.{same-lines, pairs-short, line-in-short}
+use Rattle.sheets.proofs.PairLaws.{same-lines, pairs-short, if-hours-short}
 
 -- a share is at most the joint gain
 share-small : (hours gain pay : ℕ) → gain ≤ 500 → growerShare hours gain pay ≤ 500
@@ -126,7 +125,7 @@ module _ {ticket xs file ys : List ℕ} (s : Settles ticket xs file ys) where
           cell-is Pay ys pay (a .growers) (a .pilots) (filled .payIn) i j hi hj,
         )
 
-    pub squares-printable : Printable (growersOf xs) (pilotsOf xs) (numbersIn tariffHours tariffGain tariffPay freeHours jointGain pay)
+    squares-printable : Printable (growersOf xs) (pilotsOf xs) (numbersIn tariffHours tariffGain tariffPay freeHours jointGain pay)
     squares-printable i j hi hj k =
         let h = hours-small i j hi hj in
         let a = amounts-small i j hi hj in
@@ -135,39 +134,46 @@ module _ {ticket xs file ys : List ℕ} (s : Settles ticket xs file ys) where
         (omega (arith, few-growers)) (omega (arith, few-pilots)) (rw (e .0) (h .0)) (rw (e .1) (a .0)) (rw (e .2) (a .1))
         (rw (e .3) (h .1)) (rw (e .4) (a .2)) (rw (e .5) (h .2)) k
 
-    pub squares-lines :
+    squares-lines :
         pairLines (lineIn tariffHours tariffGain tariffPay freeHours jointGain pay) (pilotsOf xs) (growersOf xs * pilotsOf xs)
         ≡ pairLines (pairLine (ticketOf xs) (settlementOf ys)) (pilotsOf xs) (growersOf xs * pilotsOf xs)
     squares-lines = same-lines _ _ (growersOf xs) (pilotsOf xs)
         (λ i j hi hj. let e = same-cells i j hi hj in rw (e .0, e .1, e .2, e .3, e .4, e .5))
 
-    -- The three parts of the page: the header, the lines of the pairs from `next` on, and the last line from `last` on.
-    module _ {page page₁ : List ℕ} {next : ℕ} (n m : ℕ) (en : n ≡ growersOf xs) (em : m ≡ pilotsOf xs)
-        (headed : Wrote page page₁ 0 next (sheetWord ++ line (growersOf xs ∷ pilotsOf xs ∷ []))) where
-      near : next ≤ 14
-      near = omega (arith, headed .ends, line-short (growersOf xs ∷ pilotsOf xs ∷ []))
+    -- written from squares, n and m being the list's growers and pilots
+    pub lines-fit : (n m at : ℕ) → n ≡ growersOf xs → m ≡ pilotsOf xs → at ≤ 14 →
+        ((n ≤ 16) × (m ≤ 16) × (at + 8192 ≤ pageBytes)) × Printable n m (numbersIn tariffHours tariffGain tariffPay freeHours jointGain pay)
+    lines-fit n m at en em near =
+        ((omega (arith, en, few-growers), omega (arith, em, few-pilots), omega arith), rw (en, em) squares-printable)
 
-      pub lines-fit : ((n ≤ 16) × (m ≤ 16) × (next + 8192 ≤ pageBytes))
-          × Printable n m (numbersIn tariffHours tariffGain tariffPay freeHours jointGain pay)
-      lines-fit = (
-        (omega (arith, en, few-growers), omega (arith, em, few-pilots), omega (arith, near)),
-        rw (en, em) squares-printable,
-      )
+    pub lines-written : {page page₁ : List ℕ} {at end : ℕ} (n m : ℕ) → n ≡ growersOf xs → m ≡ pilotsOf xs →
+        Wrote page page₁ at end (pairLines (lineIn tariffHours tariffGain tariffPay freeHours jointGain pay) m (n * m)) →
+        Wrote page page₁ at end (linesOf xs ys)
+    lines-written n m en em w = rw (en, em, squares-lines) at w
 
-      module _ {page₂ : List ℕ} {last count : ℕ} (marks : count ≡ verdictCount (judged (ticketOf xs) (settlementOf ys)))
-          (lined : Wrote page₁ page₂ next last (pairLines (lineIn tariffHours tariffGain tariffPay freeHours jointGain pay) m (n * m))) where
-        pub last-fits : (count < 1000) × (last + 6 + 4 ≤ pageBytes)
-        last-fits = (
-          omega (arith, marks, count-small),
-          omega (
-            arith,
-            near,
-            lined .ends,
-            prod-small n m (omega (arith, en, few-growers)) (omega (arith, em, few-pilots)),
-            pairs-short (lineIn tariffHours tariffGain tariffPay freeHours jointGain pay) m (n * m)
-                (λ i j. line-in-short tariffHours tariffGain tariffPay freeHours jointGain pay i j),
-          ),
-        )
+-- The header is short, and after the lines of the pairs there is room for the last line.
+pub head-short : {page page₁ : List ℕ} {end : ℕ} (xs : List ℕ) → Wrote page page₁ 0 end (headOf xs) → end ≤ 14
+head-short xs w = omega (arith, w .ends, line-short (growersOf xs ∷ pilotsOf xs ∷ []))
 
-        pub sheet-whole : {page₃ : List ℕ} {end : ℕ} → Wrote page₂ page₃ last end (soundWord ++ line (count ∷ [])) → Wrote page page₃ 0 end (sheetText xs ys)
-        sheet-whole closed = wrote-then (wrote-then headed (rw (en, em, squares-lines) at lined)) (rw marks at closed)
+pair-line-short : (t : Ticket) (x : Settlement) (i j : ℕ) → length (pairLine t x i j) ≤ 32
+pair-line-short t x i j =
+    if-hours-short (x .hours Tariff i j) (x .hours Free i j)
+    (pairNumbers i j (x .hours Tariff i j) (t .tariffGain i j) (t .tariffPay i j) (x .hours Free i j) (t .jointGain i j) (x .pay i j))
+
+pub lines-short : {ticket xs file ys : List ℕ} → Settles ticket xs file ys → length (linesOf xs ys) ≤ 8192
+lines-short {ticket} {xs} {file} {ys} s =
+    omega (
+      arith,
+      prod-small (growersOf xs) (pilotsOf xs) (few-growers s) (few-pilots s),
+      pairs-short (pairLine (ticketOf xs) (settlementOf ys)) (pilotsOf xs) (growersOf xs * pilotsOf xs) (pair-line-short (ticketOf xs) (settlementOf ys)),
+    )
+
+pub last-fits : {xs ys page page₁ : List ℕ} {at end count : ℕ} → Together xs ys count → at ≤ 14 → Wrote page page₁ at end (linesOf xs ys) →
+    (count < 1000) × (end + 6 + 4 ≤ pageBytes)
+last-fits {xs} {ys} t near w =
+    (omega (arith, t .marks, count-small (t .paired .settles)), omega (arith, w .ends, lines-short (t .paired .settles)))
+
+pub sheet-whole : {xs ys page page₁ page₂ page₃ : List ℕ} {next last end count : ℕ} → Together xs ys count → Wrote page page₁ 0 next (headOf xs) →
+    Wrote page₁ page₂ next last (linesOf xs ys) → Wrote page₂ page₃ last end (soundWord ++ line (count ∷ [])) →
+    Wrote page page₃ 0 end (sheetText xs ys)
+sheet-whole t headed lined closed = wrote-then (wrote-then headed lined) (rw (t .marks) at closed)

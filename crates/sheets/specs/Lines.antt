@@ -1,6 +1,6 @@
 -- The lines of a sheet.
 -- Assumes nothing.
-use Prim.Native.Nat.{ℕ, zero, suc}
+use Prim.Native.Nat.{ℕ}
 use mathlib.Core.List.{List, [], _∷_, _++_}
 use Rattle.sheets.specs.Decimal.{decimal}
 

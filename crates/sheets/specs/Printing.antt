@@ -18,11 +18,15 @@ pub record Settles (ticket xs file ys : List ℕ) : Type 0 where
   pub read : settlementRead (growersOf xs) (pilotsOf xs) file ≡ Numbers ys
   pub good : SoundNumbers xs ys
 
--- the same without the bytes, and the marker's count
-pub record Together (xs ys : List ℕ) (count : ℕ) : Type 0 where
+-- the same without the bytes
+pub record Paired (xs ys : List ℕ) : Type 0 where
   pub ticket : List ℕ
   pub file : List ℕ
   pub settles : Settles ticket xs file ys
+
+-- and with the marker's count
+pub record Together (xs ys : List ℕ) (count : ℕ) : Type 0 where
+  pub paired : Paired xs ys
   pub marks : count ≡ verdictCount (judged (ticketOf xs) (settlementOf ys))
 
 -- the file of some sound settlement of the ticket

@@ -2,11 +2,11 @@
 -- Assumes nothing.
 use Prim.Native.Nat.{ℕ, zero, suc, _-_, _*_, _/_, _%_}
 use mathlib.Core.List.{List, [], _∷_, _++_}
-use mathlib.Core.Bool.{Bool, cond, _&&_}
+use mathlib.Core.Bool.{cond, _&&_}
 use lib.Dec.{eqb}
 use Rattle.market.specs.declared.Deal.the-variants.{Tariff, Free}
 use Rattle.market.specs.Market.{Ticket, Settlement}
-use Rattle.marker.specs.View.{ticketOf, settlementOf}
+use Rattle.marker.specs.View.{growersOf, pilotsOf, ticketOf, settlementOf}
 use Rattle.marker.specs.Verdict.{judged, verdictCount}
 use Rattle.sheets.specs.Lines.{line}
 
@@ -44,16 +44,22 @@ unfoldable pub pairLines : (ℕ → ℕ → List ℕ) → ℕ → ℕ → List �
 pairLines lineOf m zero = []
 pairLines lineOf m (suc k) = pairLines lineOf m k ++ lineOf (k / m) (k % m)
 
--- header, pairs, and last the marker's count
-abbrev pub settledText : Ticket → Settlement → List ℕ
-settledText t x =
-    sheetWord ++ line (t .growers ∷ t .pilots ∷ [])
-    ++ pairLines (pairLine t x) (t .pilots) (t .growers * t .pilots)
-    ++ (soundWord ++ line (verdictCount (judged t x) ∷ []))
+-- The sheet of a ticket's numbers and of a settlement's.
 
--- the sheet of a ticket's numbers and of a settlement's
+-- `SHEET `, growers and pilots
+abbrev pub headOf : List ℕ → List ℕ
+headOf ticket = sheetWord ++ line (growersOf ticket ∷ pilotsOf ticket ∷ [])
+
+abbrev pub linesOf : List ℕ → List ℕ → List ℕ
+linesOf ticket settlement =
+    pairLines (pairLine (ticketOf ticket) (settlementOf settlement)) (pilotsOf ticket) (growersOf ticket * pilotsOf ticket)
+
+-- `SOUND ` and the marker's count
+abbrev pub lastOf : List ℕ → List ℕ → List ℕ
+lastOf ticket settlement = soundWord ++ line (verdictCount (judged (ticketOf ticket) (settlementOf settlement)) ∷ [])
+
 abbrev pub sheetText : List ℕ → List ℕ → List ℕ
-sheetText ticket settlement = settledText (ticketOf ticket) (settlementOf settlement)
+sheetText ticket settlement = headOf ticket ++ linesOf ticket settlement ++ lastOf ticket settlement
 
 -- a refusal, alone
 abbrev pub refusedText : ℕ → List ℕ

@@ -511,11 +511,11 @@ const DIGITS: [u16; 501] = [
 ];
 
 // The rule of the table, over all its entries.
-fn packed_digits(amount: u16) -> u16
+fn packed_digits(amount: usize) -> u16
     requires { ⌜ amount ≤ 500 ⌝ }
     ensures { λ r. ⌜ r ≡ packed amount ⌝ }
 {
-    DIGITS[amount as usize]
+    DIGITS[amount]
 }
 
 fn byte_of(d: usize) -> u8
@@ -547,7 +547,7 @@ pub(crate) fn amount(page: &mut [u8; 8216], at: usize, n: u16) -> usize
     requires { ⌜ (n ≤ 500) × (at + 3 ≤ pageBytes) ⌝ }
     ensures { λ r. ⌜ Wrote (now (page .entry)) (now (page .exit)) at r (decimal n) ⌝ }
 {
-    let digits = grid::index(packed_digits(n));
+    let digits = grid::index(packed_digits(grid::index(n)));
     spell(page, at, digits / 256, digits / 16 % 16, digits % 16)
 }
 

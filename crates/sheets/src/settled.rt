@@ -3,13 +3,11 @@ ghost use mathlib.Core.Path.{_≡_};
 ghost use mathlib.Core.List.{_∷_, [], _++_};
 ghost use Prim.Native.Nat.{ℕ, _≤_};
 ghost use Rattle.marker.specs.declared.Verdict.{Verdict};
-ghost use Rattle.marker.specs.View.{ticketOf, settlementOf};
-ghost use Rattle.marker.specs.Verdict.{judged, verdictCount};
 ghost use Rattle.marker.specs.Marked.{marked};
 ghost use Rattle.sheets.specs.Writing.{Wrote};
 ghost use Rattle.sheets.specs.Lines.{line};
-ghost use Rattle.sheets.specs.Sheet.{sheetWord, sheetText};
-ghost use Rattle.sheets.specs.Printing.{Together};
+ghost use Rattle.sheets.specs.Sheet.{sheetWord, linesOf, sheetText};
+ghost use Rattle.sheets.specs.Printing.{Paired, Together};
 use crate::lines::amounts;
 use crate::lines::counted;
 use crate::lines::word;
@@ -38,6 +36,25 @@ pub(crate) fn marked_deals(ticket: &[u8], settlement: &[u8]) -> usize
     }
 }
 
+// The lines of the pairs, after a header that ends before a place.
+fn lines_between(page: &mut [u8; 8216], at: usize, ticket: &[u16], settlement: &[u16]) -> usize
+    requires { ⌜ Paired (now ticket) (now settlement) × (at ≤ 14) ⌝ }
+    ensures { λ r. ⌜ Wrote (now (page .entry)) (now (page .exit)) at r (linesOf (now (ticket .entry)) (now (settlement .entry))) ⌝ }
+{
+    pair_lines(
+        page,
+        at,
+        grid::index(grid::entry(ticket, 1)),
+        grid::index(grid::entry(ticket, 2)),
+        marker::square(settlement, Quantity::TariffHours),
+        marker::square(ticket, Quantity::TariffGain),
+        marker::square(ticket, Quantity::TariffPay),
+        marker::square(settlement, Quantity::FreeHours),
+        marker::square(ticket, Quantity::JointGain),
+        marker::square(settlement, Quantity::Pay),
+    )
+}
+
 // The sheet of a ticket's numbers and of those of a sound settlement of it.
 pub(crate) fn settled_text(
     page: &mut [u8; 8216],
@@ -48,20 +65,7 @@ pub(crate) fn settled_text(
     requires { ⌜ Together (now ticket) (now settlement) count ⌝ }
     ensures { λ r. ⌜ Wrote (now (page .entry)) (now (page .exit)) 0 r (sheetText (now (ticket .entry)) (now (settlement .entry))) ⌝ }
 {
-    let growers = grid::entry(ticket, 1);
-    let pilots = grid::entry(ticket, 2);
-    let next = header(page, growers, pilots);
-    let last = pair_lines(
-        page,
-        next,
-        grid::index(growers),
-        grid::index(pilots),
-        marker::square(settlement, Quantity::TariffHours),
-        marker::square(ticket, Quantity::TariffGain),
-        marker::square(ticket, Quantity::TariffPay),
-        marker::square(settlement, Quantity::FreeHours),
-        marker::square(ticket, Quantity::JointGain),
-        marker::square(settlement, Quantity::Pay),
-    );
+    let next = header(page, grid::entry(ticket, 1), grid::entry(ticket, 2));
+    let last = lines_between(page, next, ticket, settlement);
     counted(page, last, b"SOUND ", count)
 }
