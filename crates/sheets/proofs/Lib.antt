@@ -5,3 +5,4 @@ pub mod LineLaws
 pub mod PairLaws
 pub mod SheetLaws
 pub mod PrintLaws
+pub mod Examples

@@ -1,16 +1,13 @@
 -- `sheets::pairs::pair_lines` meets its contract: after p turns the lines of the first p pairs stand in the page.
 -- Assumes nothing.
-use mathlib.Core.Path.{_≡_, refl, ap, _∙_}
-use mathlib.Core.List.{List}
-use Prim.Native.Nat.{ℕ, _*_, _-_, _<_, _≤_}
+use mathlib.Core.Path.{_≡_}
+use Prim.Native.Nat.{_*_, _-_, _≤_}
 use native.Mathlib.Omega.{arith}
-use lib.ListN.{length, getD}
 use borrow.Author.Needs.{needs}
-use Rattle.grid.specs.Grid.{Grid}
 use Rattle.grid.proofs.Places.{Inside, inside}
 use Rattle.sheets.specs.Writing.{Wrote}
-use Rattle.sheets.specs.Sheet.{lineIfHours, pairLines}
-use Rattle.sheets.specs.Squares.{numbersIn, lineIn}
+use Rattle.sheets.specs.Sheet.{pairLines}
+use Rattle.sheets.specs.Squares.{lineIn}
 use Rattle.sheets.proofs.PairLaws.{no-pairs, turn-fits, turn-writes}
 use Rattle.sheets.proofs.pairs.pair_lines.Statement.{statement}
 use Rattle.sheets.proofs.pairs.pair_lines.Tie as tie

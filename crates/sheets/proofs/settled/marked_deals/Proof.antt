@@ -1,6 +1,6 @@
 -- `sheets::settled::marked_deals` meets its contract: a verdict that is sound has its count, and any other is not sound.
 -- Assumes nothing.
-use mathlib.Core.Path.{_≡_, sym, _∙_}
+use mathlib.Core.Path.{_∙_}
 use mathlib.Core.List.{[], _∷_}
 use types.Run.{miss}
 use borrow.Author.Needs.{needs}
