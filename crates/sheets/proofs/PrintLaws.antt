@@ -11,7 +11,7 @@ use Rattle.grid.proofs.Cases.{never}
 use Rattle.grid.proofs.Places.{prod-small}
 use Rattle.reader.specs.declared.Reply.{Reply}
 use Rattle.reader.specs.Refusals.{noRoom}
-use Rattle.reader.specs.Walk.{Outcome, Numbers}
+use Rattle.reader.specs.Walk.{Outcome, Refusal, Numbers}
 use Rattle.reader.specs.Answer.{unpacked, settlementRead, reply}
 use Rattle.reader.proofs.Facts.{unpacked-shape, settlement-shape, settlement-few, reply-with-room, reply-without-room, reply-refused}
 use Rattle.reader.proofs.Facts.{kept-with-room, kept-without-room, written-front}
@@ -22,7 +22,7 @@ use Rattle.marker.specs.Marked.{marked}
 use Rattle.settler.specs.Settled.{SettledIn, Settled}
 use Rattle.sheets.specs.Writing.{pageBytes, Wrote}
 use Rattle.sheets.specs.Sheet.{headOf, linesOf, lastOf, sheetText, refusedText}
-use Rattle.sheets.specs.Sheeted.{Sheeted}
+use Rattle.sheets.specs.Sheeted.{IsSheet, Sheeted}
 use Rattle.sheets.specs.Printing.{Settles, Together, SoundFile, Printed}
 use Rattle.sheets.proofs.LineLaws.{line-short}
 use Rattle.sheets.proofs.SheetLaws.{lines-short, few-growers, few-pilots, all-deals-marked, all-deals-judged}
@@ -143,3 +143,15 @@ module _ {o : Outcome} {blank page : List ℕ} {end : ℕ} (p : Printed o blank 
         f ∙ ap (λ (l : List ℕ). l ++ drop end lent) front-is ∙ ap (λ (k : ℕ). p .text ++ drop k lent) end-is
         ∙ sym (kept-with-room lent (p .text) (omega (arith, end-is)));
   }
+
+-- A buffer as long as a page is never refused.
+text-short : (ticket : List ℕ) (o : Outcome) (text : List ℕ) → unpacked ticket ≡ o → IsSheet o text → length text ≤ pageBytes
+text-short ticket (Refusal w) text e i = omega (arith, ap length i, line-short (w ∷ []))
+text-short ticket (Numbers xs) text e i =
+    let s : Settles ticket xs (i .file) (i .numbers) = record { unpacks = e; read = i .read; good = i .good } in
+    omega (arith, ap length (i .same), sheet-short s)
+
+pub page-suffices : (ticket lent after : List ℕ) (r : Reply) (s : Sheeted (unpacked ticket) lent after r) → pageBytes ≤ length lent →
+    r ≡ Reply.Done (length (s .text))
+page-suffices ticket lent after r s h =
+    s .answer ∙ reply-with-room (length lent) (s .text) (omega (arith, text-short ticket (unpacked ticket) (s .text) refl (s .sheet)))

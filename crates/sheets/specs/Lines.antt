@@ -9,7 +9,7 @@ abbrev pub separator : List ℕ → ℕ
 separator [] = 10
 separator (x ∷ xs) = 32
 
--- numbers in a line
+-- a line of numbers, each in decimal and followed by its separator
 abbrev pub line : List ℕ → List ℕ
 line [] = []
 line (x ∷ xs) = decimal x ++ (separator xs ∷ line xs)

@@ -6,7 +6,8 @@ use mathlib.Core.List.{List}
 use lib.ListN.{length}
 use lib.Seq.{sets}
 
--- A page's bytes: eight fields of three digits and their separators for each of 256 pairs, 14 for the header and 10 for the last line.
+-- How many bytes a page has: for each of 256 pairs eight numbers of three digits with a separator each, 14 for the header and 10 for the
+-- last line. No sheet is longer (proofs/PrintLaws.antt).
 abbrev pub pageBytes : ℕ
 pageBytes = 8216
 

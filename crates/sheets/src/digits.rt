@@ -6,6 +6,7 @@ ghost use Rattle.sheets.specs.Writing.{pageBytes, Wrote};
 use crate::lines::put;
 use crate::table::packed_digits;
 
+// Digits follow one another from the byte of 0 on, which is 48.
 fn byte_of(d: usize) -> u8
     requires { ⌜ d < 10 ⌝ }
     ensures { λ r. ⌜ r ≡ digit d ⌝ }

@@ -12,10 +12,17 @@ slice-aggregate-copy : tie.Need-slice-aggregate-copy
 slice-aggregate-copy c = page-long (c .before .before .print .ensures) (c .before .before .before .before .blank .ensures)
 
 copy-requires : tie.Need-copy-requires
-copy-requires c κs = (end-within (c .before .before .before .print .ensures) (c .before .before .before .before .before .blank .ensures), c .before .before .if1 .left)
+copy-requires c κs =
+    (end-within (c .before .before .before .print .ensures) (c .before .before .before .before .before .blank .ensures), c .before .before .if1 .left)
 
 returns-2 : tie.Need-returns-2
-returns-2 c = sheeted-copied (c .before .before .before .before .before .before .print .ensures) (c .before .before .before .before .before .before .before .before .blank .ensures) _ _ (c .before .before .before .before .before .if1 .left) (c .before .before .copy .ensures)
+returns-2 c =
+    sheeted-copied
+    (c .before .before .before .before .before .before .print .ensures)
+    (c .before .before .before .before .before .before .before .before .blank .ensures)
+    _ _
+    (c .before .before .before .before .before .if1 .left)
+    (c .before .before .copy .ensures)
 
 pub sheet-spec : {M : Type 1} → statement M
 sheet-spec =

@@ -19,10 +19,12 @@ filled c = record {
 }
 
 growers-are : (c : tie.After-square6) → c .before .before .before .before .before .before .before .before .index .result ≡ growersOf (c .before .before .before .before .before .before .before .before .before .before .before .before .before .args .ticket .now)
-growers-are c = c .before .before .before .before .before .before .before .before .index .ensures .0 ∙ c .before .before .before .before .before .before .before .before .before .entry .ensures
+growers-are c =
+    c .before .before .before .before .before .before .before .before .index .ensures .0 ∙ c .before .before .before .before .before .before .before .before .before .entry .ensures
 
 pilots-are : (c : tie.After-square6) → c .before .before .before .before .before .before .index2 .result ≡ pilotsOf (c .before .before .before .before .before .before .before .before .before .before .before .before .before .args .ticket .now)
-pilots-are c = c .before .before .before .before .before .before .index2 .ensures .0 ∙ c .before .before .before .before .before .before .before .entry2 .ensures
+pilots-are c =
+    c .before .before .before .before .before .before .index2 .ensures .0 ∙ c .before .before .before .before .before .before .before .entry2 .ensures
 
 pair-lines-requires : tie.Need-pair-lines-requires
 pair-lines-requires c κs =

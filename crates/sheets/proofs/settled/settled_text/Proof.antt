@@ -17,7 +17,8 @@ headed : (c : tie.After-header) → Wrote (c .before .before .before .before .be
 headed c = rw (c .before .before .entry .ensures, c .before .entry2 .ensures) at (c .header .ensures)
 
 lines-between-requires : tie.Need-lines-between-requires
-lines-between-requires c κs = (c .before .before .before .before .before .before .before .pre .paired, head-short (c .before .before .before .before .before .before .before .args .ticket .now) (headed (c .before)))
+lines-between-requires c κs =
+    (c .before .before .before .before .before .before .before .pre .paired, head-short (c .before .before .before .before .before .before .before .args .ticket .now) (headed (c .before)))
 
 counted-requires : tie.Need-counted-requires
 counted-requires c κs =
@@ -25,7 +26,13 @@ counted-requires c κs =
     last-fits (q .before .before .before .before .before .before .pre) (head-short (q .before .before .before .before .before .before .args .ticket .now) (headed q)) (c .before .before .lines-between .ensures)
 
 returns : tie.Need-returns
-returns c = let q = c .before .before .before .before .before in sheet-whole (q .before .before .before .before .before .before .pre) (headed q) (c .before .before .before .lines-between .ensures) (c .counted .ensures)
+returns c =
+    let q = c .before .before .before .before .before in
+    sheet-whole
+    (q .before .before .before .before .before .before .pre)
+    (headed q)
+    (c .before .before .before .lines-between .ensures)
+    (c .counted .ensures)
 
 pub settled-text-spec : {M : Type 1} → statement M
 settled-text-spec =
