@@ -1,5 +1,6 @@
 // The tickets A to D, others of one pair or four, every refusal, and buffers one byte short, just long enough and longer.
 use super::shown::named;
+use report::front_bytes;
 
 fn ticket_a() -> [u8; 10] {
     [1, 1, 1, 3, 2, 1, 4, 3, 0, 0]
@@ -80,23 +81,42 @@ fn room() {
     named(&ticket_a(), 40);
 }
 
-// 1 to 9, each also where the buffer is too short for it.
-fn refused() {
-    named(b"", 9);
-    named(b"", 10);
-    named(b"\x80\x80", 20);
-    named(b"\x81\x00", 20);
-    named(b"\x02", 20);
-    named(b"\x01\x11", 20);
-    named(b"\x01\x01\x01\x3D", 20);
-    named(b"\x01\x01\x01\x3C\x02\x3D", 20);
-    named(b"\x01\x01\x01\x3C\x02\x00\x01", 20);
-    named(b"\x01\x01\x01\x00\x00\x00\x00\x00\x00\x00\x00", 20);
+// Ticket A with one byte more, and one byte changed.
+fn changed(place: usize, byte: u8) -> [u8; 11] {
+    let mut ticket = [1, 1, 1, 3, 2, 1, 4, 3, 0, 0, 0];
+    if place < 11 {
+        ticket[place] = byte;
+    }
+    ticket
+}
+
+// The amount's second byte has its top bit set.
+fn long_amount() -> [u8; 11] {
+    [1, 1, 1, 60, 60, 59, 9, 10, 60, 0xF4, 0x83]
+}
+
+fn refused(place: usize, byte: u8, count: usize) {
+    named(front_bytes(&changed(place, byte), count), 20);
+}
+
+// 1 to 9 in their order, the first also for no bytes, and into a buffer that is too short for it.
+fn refusals() {
+    named(front_bytes(&changed(0, 1), 0), 9);
+    refused(0, 1, 0);
+    refused(0, 1, 9);
+    named(&long_amount(), 20);
+    refused(8, 0x80, 10);
+    refused(0, 2, 10);
+    refused(1, 17, 10);
+    refused(3, 61, 10);
+    refused(5, 61, 10);
+    refused(9, 1, 10);
+    refused(10, 0, 11);
 }
 
 pub(crate) fn all() {
     a_to_d();
     others();
     room();
-    refused();
+    refusals();
 }
