@@ -26,13 +26,13 @@ fn of_ticket(file: &[u8; 27], tally: &mut [usize; 12]) {
     beyond::limits(ticket, tally);
 }
 
-// Every ticket of a grid, fewer than a million: 27 times the hours, and for each of two pairs 19 tariff deals and 7 free ones.
-// They have 27 * 1426 * 1426 settlements within their limits, 46 * 31 for the deals of a pair.
+// Every ticket of a grid, fewer than a million: 27 times the hours, and for each of two pairs 9 tariff deals and 5 free ones.
+// They have 27 * 336 * 336 settlements within their limits, 21 * 16 for the deals of a pair.
 fn of_grid(growers: u8, pilots: u8) -> [usize; 12] {
     let most = Most {
         hours: 2,
         cap: 2,
-        amount: 2,
+        amount: 1,
     };
     let mut tally = no_counts();
     let mut ticket = plain::first_ticket(growers, pilots, 0);

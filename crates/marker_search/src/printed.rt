@@ -9,7 +9,7 @@ use report::text;
 
 pub(crate) fn what_is_searched() {
     text(
-        b"tickets: all hours 0 to 2, all caps 0 to 2, all amounts 0 to 2, but 0 in a deal of cap 0\n",
+        b"tickets: all hours 0 to 2, all caps 0 to 2, all amounts 0 to 1, but 0 in a deal of cap 0\n",
     );
     text(b"settlements of each: all with hours 0 to their cap and pay 0 to c;\n");
     text(
