@@ -6,7 +6,7 @@ use mathlib.Core.List.{List}
 use native.Mathlib.Omega.{arith}
 use lib.ListN.{getD, length, set, length-set}
 use lib.Seq.{getD-set-same, getD-set-other}
-use Rattle.grid.specs.Grid.{Grid, Row}
+use Rattle.grid.specs.Grid.{Grid}
 use Rattle.grid.specs.Fill.{Filled}
 use Rattle.grid.proofs.Cases.{by-index}
 use Rattle.marker.specs.declared.Quantity.{Quantity}

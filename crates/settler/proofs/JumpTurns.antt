@@ -1,6 +1,6 @@
 -- A jump keeps what holds, and leaves less to do.
 -- Assumes nothing.
-use Prim.Native.Nat.{ℕ, _+_, _≤_, _<_}
+use Prim.Native.Nat.{ℕ, _≤_, _<_}
 use mathlib.Core.Bool.{Bool, true, false}
 use mathlib.Core.Path.{_≡_, refl}
 use mathlib.Core.List.{List, []}
@@ -15,7 +15,7 @@ use Rattle.market.proofs.Jump.{step-jump, jump-falls}
 use Rattle.settler.specs.declared.Jump.{Jump}
 use Rattle.settler.specs.View.{line, ticket, heldIn}
 use Rattle.settler.specs.State.{Live, Turned}
-use Rattle.settler.specs.Jumps.{among, GrowersBear, PilotsBear, RaisedMarked, JumpFrom}
+use Rattle.settler.specs.Jumps.{among, GrowersBear, PilotsBear, RaisedMarked}
 use Rattle.settler.specs.Moves.{Jumps}
 use Rattle.settler.proofs.JumpLaws.{growers-any}
 

@@ -34,8 +34,8 @@ pub(crate) fn raise_marked(price: &mut [u32; 16], marks: [bool; 16], pilots: usi
     *price = next;
 }
 
-// The jump that lifts pilot j; of size 0 if there is none.
-pub(crate) fn jump_from(
+// The jump of the marked pilots, pilot j among them, as far as all bear it; of size 0 if there is none.
+fn jump_of(
     growers: usize,
     pilots: usize,
     pilot_hours: [u16; 16],
@@ -48,6 +48,7 @@ pub(crate) fn jump_from(
     by_tariff: &[[u16; 16]; 16],
     old_free: &[[u16; 16]; 16],
     new_free: &[[u16; 16]; 16],
+    marks: [bool; 16],
     j: usize,
 ) -> Jump
     requires { ⌜ (growers ≤ 16) × (pilots ≤ 16) × (j < 16) ⌝ }
@@ -55,20 +56,6 @@ pub(crate) fn jump_from(
         (ticket growers pilots [] «pilot_hours» «tariff_cap» «tariff_gain» «tariff_pay» «free_cap» «joint_gain»)
         (line (now (price .entry))) (heldIn (now («by_tariff» .entry)) (now («old_free» .entry)) (now («new_free» .entry))) j r ⌝ }
 {
-    let marks = tied(
-        growers,
-        pilots,
-        tariff_cap,
-        tariff_gain,
-        tariff_pay,
-        free_cap,
-        joint_gain,
-        price,
-        by_tariff,
-        old_free,
-        new_free,
-        j,
-    );
     if !marks[j] {
         return Jump {
             pilots: marks,
@@ -104,4 +91,57 @@ pub(crate) fn jump_from(
         pilots: marks,
         by: least(for_pilots, for_growers),
     }
+}
+
+// The jump that lifts pilot j; of size 0 if there is none.
+pub(crate) fn jump_from(
+    growers: usize,
+    pilots: usize,
+    pilot_hours: [u16; 16],
+    tariff_cap: [[u16; 16]; 16],
+    tariff_gain: [[u16; 16]; 16],
+    tariff_pay: [[u16; 16]; 16],
+    free_cap: [[u16; 16]; 16],
+    joint_gain: [[u16; 16]; 16],
+    price: &[u32; 16],
+    by_tariff: &[[u16; 16]; 16],
+    old_free: &[[u16; 16]; 16],
+    new_free: &[[u16; 16]; 16],
+    j: usize,
+) -> Jump
+    requires { ⌜ (growers ≤ 16) × (pilots ≤ 16) × (j < 16) ⌝ }
+    ensures { λ r. ⌜ JumpFrom
+        (ticket growers pilots [] «pilot_hours» «tariff_cap» «tariff_gain» «tariff_pay» «free_cap» «joint_gain»)
+        (line (now (price .entry))) (heldIn (now («by_tariff» .entry)) (now («old_free» .entry)) (now («new_free» .entry))) j r ⌝ }
+{
+    let marks = tied(
+        growers,
+        pilots,
+        tariff_cap,
+        tariff_gain,
+        tariff_pay,
+        free_cap,
+        joint_gain,
+        price,
+        by_tariff,
+        old_free,
+        new_free,
+        j,
+    );
+    jump_of(
+        growers,
+        pilots,
+        pilot_hours,
+        tariff_cap,
+        tariff_gain,
+        tariff_pay,
+        free_cap,
+        joint_gain,
+        price,
+        by_tariff,
+        old_free,
+        new_free,
+        marks,
+        j,
+    )
 }

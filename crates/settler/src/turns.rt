@@ -1,5 +1,4 @@
 // The turns of the method: the next deal is served, or its pilot's price rises, until no grower with a free hour has an open deal.
-ghost use mathlib.Core.Path.{_≡_};
 ghost use Prim.Native.Nat.{ℕ, _+_, _<_, _≤_};
 ghost use mathlib.Core.List.{[]};
 ghost use Rattle.grid.specs.Grid.{at, Square};

@@ -1,7 +1,6 @@
 -- `settler::turns::run` meets its contract.
 -- Assumes nothing.
 use Prim.Native.Nat.{_<_}
-use native.Mathlib.Omega.{arith}
 use Rattle.settler.specs.View.{line, ticket, heldIn}
 use Rattle.settler.specs.State.{Live, leftToDo}
 use Rattle.settler.proofs.Asking.{next-any}

@@ -1,32 +1,31 @@
--- `settler::jumps::jump_from` meets its contract.
+-- `settler::jumps::jump_of` meets its contract.
 -- Assumes nothing.
 use borrow.Author.Tests.{not-false}
 use Rattle.settler.specs.View.{line}
 use Rattle.settler.proofs.JumpLaws.{no-jump, jump-made}
 use borrow.Author.Needs.{needs}
-use Rattle.settler.proofs.jumps.jump_from.Statement.{statement}
-use Rattle.settler.proofs.jumps.jump_from.Tie as tie
+use Rattle.settler.proofs.jumps.jump_of.Statement.{statement}
+use Rattle.settler.proofs.jumps.jump_of.Tie as tie
 
 returns : tie.Need-returns
 returns c =
-    let a = c .before .before .args in
+    let a = c .before .args in
     no-jump _ _ (a .pilot-hours) (a .tariff-cap) (a .tariff-gain) (a .tariff-pay) (a .free-cap) (a .joint-gain) (a .by-tariff .now)
     (a .old-free .now) (a .new-free .now) (line (a .price .now)) _ _
 
 returns-2 : tie.Need-returns-2
 returns-2 c =
-    let a = c .before .before .before .before .before .args in
+    let a = c .before .before .before .before .args in
     let e = c .least .ensures in
     jump-made _ _ (a .pilot-hours) (a .tariff-cap) (a .tariff-gain) (a .tariff-pay) (a .free-cap) (a .joint-gain) (a .by-tariff .now)
     (a .old-free .now) (a .new-free .now) (line (a .price .now)) _ _ _ _ _ (not-false _ (c .before .before .before .if1 .left)) (e .0) (e .1)
     (c .before .before .pilots-slack .ensures)
     (c .before .growers-slack .ensures)
 
-pub jump-from-spec : {M : Type 1} → statement M
-jump-from-spec =
+pub jump-of-spec : {M : Type 1} → statement M
+jump-of-spec =
     tie.close
     (tie.spec
-    (λ c κs. search needs)
     (λ c. search needs)
     returns
     (λ c κs. search needs)
