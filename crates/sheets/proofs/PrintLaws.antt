@@ -91,9 +91,6 @@ module _ (ticket xs lent after : List ℕ) (r : Reply) (e : unpacked ticket ≡ 
     inside : SettledIn xs lent after count
     inside = rw same-count at (settles .2)
 
-    pub settlement-within : count ≤ 1027
-    settlement-within = omega (arith, inside .within, long)
-
     pub settlement-sound : SoundFile ticket xs (take count after)
     settlement-sound = record {
       numbers = inside .numbers;

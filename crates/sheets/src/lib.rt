@@ -1,10 +1,10 @@
 // The sheet of a ticket: the ticket settled, as text, or its refusal. It is written into a page of its own and then copied, so that a
 // lent buffer that is too short stays as it was.
-mod digits; // digits.rt: numbers in decimal digits, amounts by the table
-mod lines; // lines.rt: bytes, words and lines in a page
-mod pairs; // pairs.rt: the lines of the pairs that have hours
-mod settled; // settled.rt: header, pairs and count
-mod table; // table.rt: the digits of every amount
+mod digits;
+mod lines;
+mod pairs;
+mod settled;
+mod table;
 
 ghost use mathlib.Core.Path.{_≡_};
 ghost use Prim.Native.Nat.{_≤_};
