@@ -1,15 +1,4 @@
-pub mod Totals
-pub mod Cells
-pub mod GreatestDeals
-pub mod Asking
-pub mod LateSearch
-pub mod HourChanges
-pub mod TurnLaws
-pub mod EuroPrices
-pub mod Soundness
 pub mod ListLaws
 pub mod TicketTables
 pub mod SettlementNumbers
 pub mod Answering
-pub mod JumpLaws
-pub mod JumpTurns

@@ -1,14 +1,15 @@
 -- Writing the numbers of a settlement, pair by pair.
 -- Assumes nothing.
 use Prim.Native.Nat.{ℕ, _+_, _*_, _/_, _%_, _≤_, _<_}
-use mathlib.Core.Path.{_≡_, _∙_}
+use mathlib.Core.Path.{_≡_, ap, _∙_}
 use mathlib.Core.List.{List}
 use native.Mathlib.Omega.{arith}
 use lib.ListN.{getD, set, length, length-set}
 use lib.Seq.{getD-set-same, getD-set-other}
-use Rattle.grid.specs.Grid.{Grid, at}
 use Rattle.grid.proofs.Cases.{by-index}
 use Rattle.grid.proofs.Places.{cell-place, row-within}
+use Rattle.method.specs.declared.Flown.{Flown}
+use Rattle.method.specs.Result.{flownAt}
 use Rattle.settler.specs.Listing.{Written, Headed, Listed}
 
 pub three-written : (l : List ℕ) (p x y z : ℕ) → p + 2 < length l → Written l (set (set (set l p x) (p + 1) y) (p + 2) z) p x y z
@@ -30,19 +31,19 @@ three-written l p x y z h =
     }
 
 -- pair k of m pilots is grower k / m and pilot k % m
-abbrev pairOf : Grid → ℕ → ℕ → ℕ
-pairOf q m k = at q (k / m) (k % m)
+abbrev pairOf : List (List Flown) → ℕ → ℕ → Flown
+pairOf flown m k = flownAt flown (k / m) (k % m)
 
 -- the numbers of the first k pairs stand in the list
-pub record ListedTo (n m : ℕ) (tariff free pay : Grid) (k : ℕ) (l : List ℕ) : Type 0 where
+pub record ListedTo (n m : ℕ) (flown : List (List Flown)) (k : ℕ) (l : List ℕ) : Type 0 where
   pub long : length l ≡ 771
   pub head : Headed n m l
-  pub first : (p : ℕ) → p < k → getD l (3 + 3 * p) 0 ≡ pairOf tariff m p
-  pub second : (p : ℕ) → p < k → getD l (3 + 3 * p + 1) 0 ≡ pairOf free m p
-  pub third : (p : ℕ) → p < k → getD l (3 + 3 * p + 2) 0 ≡ pairOf pay m p
+  pub first : (p : ℕ) → p < k → getD l (3 + 3 * p) 0 ≡ pairOf flown m p .«tariff_hours»
+  pub second : (p : ℕ) → p < k → getD l (3 + 3 * p + 1) 0 ≡ pairOf flown m p .«free_hours»
+  pub third : (p : ℕ) → p < k → getD l (3 + 3 * p + 2) 0 ≡ pairOf flown m p .pay
 
-module _ (n m : ℕ) (tariff free pay : Grid) where
-  pub listed-start : (l l′ : List ℕ) (g p : ℕ) → length l ≡ 771 → g ≡ n → p ≡ m → Written l l′ 0 2 g p → ListedTo n m tariff free pay 0 l′
+module _ (n m : ℕ) (flown : List (List Flown)) where
+  pub listed-start : (l l′ : List ℕ) (g p : ℕ) → length l ≡ 771 → g ≡ n → p ≡ m → Written l l′ 0 2 g p → ListedTo n m flown 0 l′
   listed-start l l′ g p len eg ep w = record {
     long = w .long ∙ len;
     head = record { kind = w .first; growers = w .second ∙ eg; pilots = w .third ∙ ep };
@@ -51,8 +52,8 @@ module _ (n m : ℕ) (tariff free pay : Grid) where
     third = λ q h. absurd (omega arith);
   }
 
-  pub listed-more : (k : ℕ) (l l′ : List ℕ) (x y z : ℕ) → x ≡ pairOf tariff m k → y ≡ pairOf free m k → z ≡ pairOf pay m k →
-      Written l l′ (3 + 3 * k) x y z → ListedTo n m tariff free pay k l → ListedTo n m tariff free pay (k + 1) l′
+  pub listed-more : (k : ℕ) (l l′ : List ℕ) (x y z : ℕ) → x ≡ pairOf flown m k .«tariff_hours» → y ≡ pairOf flown m k .«free_hours» → z ≡ pairOf flown m k .pay →
+      Written l l′ (3 + 3 * k) x y z → ListedTo n m flown k l → ListedTo n m flown (k + 1) l′
   listed-more k l l′ x y z ex ey ez w s = record {
     long = w .long ∙ s .long;
     head = record {
@@ -60,21 +61,21 @@ module _ (n m : ℕ) (tariff free pay : Grid) where
       growers = w .before 1 (omega arith) ∙ s .head .growers;
       pilots = w .before 2 (omega arith) ∙ s .head .pilots;
     };
-    first = by-index (λ p. p < k + 1 → getD l′ (3 + 3 * p) 0 ≡ pairOf tariff m p) k (λ _. w .first ∙ ex)
+    first = by-index (λ p. p < k + 1 → getD l′ (3 + 3 * p) 0 ≡ pairOf flown m p .«tariff_hours») k (λ _. w .first ∙ ex)
         (λ p ne h. w .before (3 + 3 * p) (omega arith) ∙ s .first p (omega arith));
-    second = by-index (λ p. p < k + 1 → getD l′ (3 + 3 * p + 1) 0 ≡ pairOf free m p) k (λ _. w .second ∙ ey)
+    second = by-index (λ p. p < k + 1 → getD l′ (3 + 3 * p + 1) 0 ≡ pairOf flown m p .«free_hours») k (λ _. w .second ∙ ey)
         (λ p ne h. w .before (3 + 3 * p + 1) (omega arith) ∙ s .second p (omega arith));
-    third = by-index (λ p. p < k + 1 → getD l′ (3 + 3 * p + 2) 0 ≡ pairOf pay m p) k (λ _. w .third ∙ ez)
+    third = by-index (λ p. p < k + 1 → getD l′ (3 + 3 * p + 2) 0 ≡ pairOf flown m p .pay) k (λ _. w .third ∙ ez)
         (λ p ne h. w .before (3 + 3 * p + 2) (omega arith) ∙ s .third p (omega arith));
   }
 
-  there : (q : Grid) (i j : ℕ) → j < m → pairOf q m (i * m + j) ≡ at q i j
-  there q i j hj = let e = cell-place m i j hj in rw (e .0, e .1)
+  there : (i j : ℕ) → j < m → pairOf flown m (i * m + j) ≡ flownAt flown i j
+  there i j hj = let e = cell-place m i j hj in rw (e .0, e .1)
 
-  pub listed-end : (k : ℕ) (l : List ℕ) → n * m ≤ k → ListedTo n m tariff free pay k l → Listed n m tariff free pay l
+  pub listed-end : (k : ℕ) (l : List ℕ) → n * m ≤ k → ListedTo n m flown k l → Listed n m flown l
   listed-end k l h s = record {
     head = s .head;
-    tariffHours = λ i j hi hj. s .first (i * m + j) (omega (arith, row-within i n m hi)) ∙ there tariff i j hj;
-    freeHours = λ i j hi hj. s .second (i * m + j) (omega (arith, row-within i n m hi)) ∙ there free i j hj;
-    payPerHour = λ i j hi hj. s .third (i * m + j) (omega (arith, row-within i n m hi)) ∙ there pay i j hj;
+    tariffHours = λ i j hi hj. s .first (i * m + j) (omega (arith, row-within i n m hi)) ∙ ap (λ (p : Flown). p .«tariff_hours») (there i j hj);
+    freeHours = λ i j hi hj. s .second (i * m + j) (omega (arith, row-within i n m hi)) ∙ ap (λ (p : Flown). p .«free_hours») (there i j hj);
+    payPerHour = λ i j hi hj. s .third (i * m + j) (omega (arith, row-within i n m hi)) ∙ ap (λ (p : Flown). p .pay) (there i j hj);
   }

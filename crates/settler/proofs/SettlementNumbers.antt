@@ -1,4 +1,4 @@
--- The list that is written of a sound settlement's squares: its front means the same settlement, and takes few bytes.
+-- The list that is written of a sound settlement: its front means the same settlement, and takes few bytes.
 -- Assumes nothing.
 use Prim.Native.Nat.{ℕ, zero, suc, _+_, _*_, _/_, _%_, _≤_, _<_}
 use mathlib.Core.Path.{_≡_, refl, sym, ap, _∙_}
@@ -8,7 +8,6 @@ use native.Mathlib.Nat.{div-add-mod'}
 use native.Mathlib.Omega.{arith}
 use lib.ListN.{length, getD, take, List·getD-eq-default}
 use lib.Seq.{getD-take, length-take-le}
-use Rattle.grid.specs.Grid.{Grid, at}
 use Rattle.grid.proofs.Cases.{lt-or-le}
 use Rattle.grid.proofs.Places.{inside, prod-small}
 use Rattle.market.specs.declared.Deal.{Deal}
@@ -20,18 +19,28 @@ use Rattle.market.proofs.Gains.{nothing-blocks-iff}
 use Rattle.reader.proofs.SettlementLaws.{SettlementShape}
 use Rattle.reader.proofs.Facts.{pair-below}
 use Rattle.marker.specs.View.{growersOf, pilotsOf, ticketOf, settlementOf}
-use Rattle.settler.specs.State.{Fit}
-use Rattle.settler.specs.Result.{settlement}
+use Rattle.method.specs.declared.Flown.{Flown}
+use Rattle.method.specs.Result.{flownAt, settlementIn}
 use Rattle.settler.specs.Listing.{Listed}
-use Rattle.settler.specs.FromList.{settlementCount, SoundFront}
+use Rattle.settler.specs.FromList.{IsTicket, settlementCount, SoundFront}
+use Rattle.settler.proofs.TicketTables.{limits}
 
--- every cell of the market
-abbrev Small : ℕ → ℕ → Grid → ℕ → Type 0
-Small n m g b = (i j : ℕ) → i < n → j < m → at g i j < b
+-- every pair of the market
+abbrev Small : ℕ → ℕ → (ℕ → ℕ → ℕ) → ℕ → Type 0
+Small n m f b = (i j : ℕ) → i < n → j < m → f i j < b
 
-module _ {n m : ℕ} {tariff free pay : Grid} {list : List ℕ} (l : Listed n m tariff free pay list) where
+abbrev tariffIn : List (List Flown) → ℕ → ℕ → ℕ
+tariffIn flown i j = flownAt flown i j .«tariff_hours»
+
+abbrev freeIn : List (List Flown) → ℕ → ℕ → ℕ
+freeIn flown i j = flownAt flown i j .«free_hours»
+
+abbrev payIn : List (List Flown) → ℕ → ℕ → ℕ
+payIn flown i j = flownAt flown i j .pay
+
+module _ {n m : ℕ} {flown : List (List Flown)} {list : List ℕ} (l : Listed n m flown list) where
   -- the numbers of the pair at place q
-  pair-numbers : (b : ℕ) → Small n m tariff b → Small n m free b → Small n m pay b → (q : ℕ) → q < n * m →
+  pair-numbers : (b : ℕ) → Small n m (tariffIn flown) b → Small n m (freeIn flown) b → Small n m (payIn flown) b → (q : ℕ) → q < n * m →
       (getD list (3 + 3 * q) 0 < b) × (getD list (3 + 3 * q + 1) 0 < b) × (getD list (3 + 3 * q + 2) 0 < b)
   pair-numbers b ht hf hp q h =
       let w = inside n m q h in
@@ -47,7 +56,7 @@ module _ {n m : ℕ} {tariff free pay : Grid} {list : List ℕ} (l : Listed n m 
       )
 
   -- every number of the settlement: of its head, or of a pair
-  numbers-small : Small n m tariff 16384 → Small n m free 16384 → Small n m pay 16384 → n ≤ 16 → m ≤ 16 →
+  numbers-small : Small n m (tariffIn flown) 16384 → Small n m (freeIn flown) 16384 → Small n m (payIn flown) 16384 → n ≤ 16 → m ≤ 16 →
       (p : ℕ) → p < 3 + 3 * (n * m) → getD list p 0 < 16384
   numbers-small ht hf hp hn hm zero h = omega (arith, l .head .kind)
   numbers-small ht hf hp hn hm (suc zero) h = omega (arith, l .head .growers)
@@ -81,13 +90,13 @@ module _ {n m : ℕ} {tariff free pay : Grid} {list : List ℕ} (l : Listed n m 
     own-pilots : getD own 2 0 ≡ m
     own-pilots = own-number 2 (omega arith) ∙ l .head .pilots
 
-    own-small : Small n m tariff 16384 → Small n m free 16384 → Small n m pay 16384 → (p : ℕ) → getD own p 0 < 16384
+    own-small : Small n m (tariffIn flown) 16384 → Small n m (freeIn flown) 16384 → Small n m (payIn flown) 16384 → (p : ℕ) → getD own p 0 < 16384
     own-small ht hf hp p = ⊎-elim
         (λ h. omega (arith, own-number p h, numbers-small ht hf hp hn hm p h))
         (λ h. omega (arith, List·getD-eq-default own 0 {n = p} (omega (arith, own-long))))
         (lt-or-le p (3 + 3 * (n * m)))
 
-    pub own-shape : Small n m tariff 16384 → Small n m free 16384 → Small n m pay 16384 → SettlementShape own n m
+    pub own-shape : Small n m (tariffIn flown) 16384 → Small n m (freeIn flown) 16384 → Small n m (payIn flown) 16384 → SettlementShape own n m
     own-shape ht hf hp = record {
       count = own-long;
       kind = own-number 0 (omega arith) ∙ l .head .kind;
@@ -104,14 +113,14 @@ module _ {n m : ℕ} {tariff free pay : Grid} {list : List ℕ} (l : Listed n m 
         ∙ own-number (3 + 3 * (i * m + j) + k) (omega (arith, pair-below n m i j hi hj))
         ∙ ap (λ (q : ℕ). getD list q 0) (sym e)
 
-    pub own-same : (t : Ticket) → t .growers ≡ n → t .pilots ≡ m → SameSettlement t (settlement tariff free pay) (settlementOf own)
+    pub own-same : (t : Ticket) → t .growers ≡ n → t .pilots ≡ m → SameSettlement t (settlementIn flown) (settlementOf own)
     own-same t en em = record { hours = hours; pay = λ i j hi hj. pays i j (omega (arith, en)) (omega (arith, em)) }
       where
-        pays : (i j : ℕ) → i < n → j < m → settlementOf own .pay i j ≡ at pay i j
+        pays : (i j : ℕ) → i < n → j < m → settlementOf own .pay i j ≡ payIn flown i j
         pays i j hi hj = own-pair i j 2 _ hi hj (omega arith) refl ∙ l .payPerHour i j hi hj
 
         hours : (d : Deal) (i j : ℕ) → i < t .growers → j < t .pilots →
-            settlementOf own .hours d i j ≡ settlement tariff free pay .hours d i j
+            settlementOf own .hours d i j ≡ settlementIn flown .hours d i j
         hours Tariff i j hi hj =
             own-pair i j 0 (3 + 3 * (i * m + j)) (omega (arith, en)) (omega (arith, em)) (omega arith) (omega arith)
             ∙ l .tariffHours i j (omega (arith, en)) (omega (arith, em))
@@ -119,53 +128,49 @@ module _ {n m : ℕ} {tariff free pay : Grid} {list : List ℕ} (l : Listed n m 
             own-pair i j 1 _ (omega (arith, en)) (omega (arith, em)) (omega arith) refl
             ∙ l .freeHours i j (omega (arith, en)) (omega (arith, em))
 
-    own-hours : Small n m tariff 128 → Small n m free 128 → Small n m pay 16384 → (q : ℕ) → q < n * m →
+    own-hours : Small n m (tariffIn flown) 128 → Small n m (freeIn flown) 128 → Small n m (payIn flown) 16384 → (q : ℕ) → q < n * m →
         (getD own (3 + 3 * q) 0 < 128) × (getD own (4 + 3 * q) 0 < 128)
     own-hours ht hf hp q h =
         let w = inside n m q h in
         let i = q / m in
         let j = q % m in
         let e : i * m + j ≡ q = div-add-mod' q m in
-        let t : getD own (3 + 3 * q) 0 ≡ at tariff i j =
+        let t : getD own (3 + 3 * q) 0 ≡ tariffIn flown i j =
         own-number (3 + 3 * q) (omega arith) ∙ ap (λ (p : ℕ). getD list (3 + 3 * p) 0) (sym e) ∙ l .tariffHours i j (w .grower) (w .pilot) in
-        let f : getD own (4 + 3 * q) 0 ≡ at free i j =
+        let f : getD own (4 + 3 * q) 0 ≡ freeIn flown i j =
         own-number (4 + 3 * q) (omega arith) ∙ ap (λ (p : ℕ). getD list p 0) (omega (arith, e)) ∙ l .freeHours i j (w .grower) (w .pilot) in
         (omega (arith, t, ht i j (w .grower) (w .pilot)), omega (arith, f, hf i j (w .grower) (w .pilot)))
 
--- A sound settlement in squares of a ticket that fits, written into a list: the front of the list is sound for whatever ticket is
--- the same in range.
-pub sound-front : (xs : List ℕ) (t : Ticket) → Fit t → SameTicket t (ticketOf xs) → (tariff free pay : Grid) →
-    Sound t (settlement tariff free pay) → (list : List ℕ) → length list ≡ 771 → Listed (growersOf xs) (pilotsOf xs) tariff free pay list →
-    SoundFront xs list
-sound-front xs t fit same tariff free pay s list long l = record {
+-- A sound settlement of the ticket that a list means, written into a list: the front of that list is sound.
+pub sound-front : (xs : List ℕ) → IsTicket xs → (t : Ticket) → SameTicket t (ticketOf xs) → (flown : List (List Flown)) →
+    Sound t (settlementIn flown) → (list : List ℕ) → length list ≡ 771 → Listed (growersOf xs) (pilotsOf xs) flown list → SoundFront xs list
+sound-front xs is t same flown s list long l = record {
   good = record { sound = sound; nobodyGains = nothing-blocks-iff (ticketOf xs) _ .0 (sound .nothingBlocks) };
-  shape = own-shape l long hn hm (wider tariff tariff-few) (wider free free-few) pay-few;
+  shape = own-shape l long hn hm (wider (tariffIn flown) tariff-few) (wider (freeIn flown) free-few) pay-few;
   hours = own-hours l long hn hm tariff-few free-few pay-few;
 }
   where
     hn : growersOf xs ≤ 16
-    hn = omega (arith, same .growers, fit .growers)
+    hn = limits is .growers
 
     hm : pilotsOf xs ≤ 16
-    hm = omega (arith, same .pilots, fit .pilots)
+    hm = limits is .pilots
 
-    tariff-few : Small (growersOf xs) (pilotsOf xs) tariff 128
-    tariff-few i j hi hj =
-        let a : i < t .growers = omega (arith, same .growers) in let b : j < t .pilots = omega (arith, same .pilots) in
-        omega (arith, s .feasible .fits .deal Tariff i j a b, fit .tariffCap i j a b)
+    -- the squares are sound for the list's ticket itself
+    here : Sound (ticketOf xs) (settlementIn flown)
+    here = sound-same same (record { hours = λ d i j hi hj. refl; pay = λ i j hi hj. refl }) s
 
-    free-few : Small (growersOf xs) (pilotsOf xs) free 128
-    free-few i j hi hj =
-        let a : i < t .growers = omega (arith, same .growers) in let b : j < t .pilots = omega (arith, same .pilots) in
-        omega (arith, s .feasible .fits .deal Free i j a b, fit .freeCap i j a b)
+    tariff-few : Small (growersOf xs) (pilotsOf xs) (tariffIn flown) 128
+    tariff-few i j hi hj = omega (arith, here .feasible .fits .deal Tariff i j hi hj, limits is .tariffCap i j hi hj)
 
-    pay-few : Small (growersOf xs) (pilotsOf xs) pay 16384
-    pay-few i j hi hj =
-        let a : i < t .growers = omega (arith, same .growers) in let b : j < t .pilots = omega (arith, same .pilots) in
-        omega (arith, s .feasible .payInGain i j a b, fit .jointGain i j a b)
+    free-few : Small (growersOf xs) (pilotsOf xs) (freeIn flown) 128
+    free-few i j hi hj = omega (arith, here .feasible .fits .deal Free i j hi hj, limits is .freeCap i j hi hj)
 
-    wider : (g : Grid) → Small (growersOf xs) (pilotsOf xs) g 128 → Small (growersOf xs) (pilotsOf xs) g 16384
-    wider g h i j hi hj = omega (arith, h i j hi hj)
+    pay-few : Small (growersOf xs) (pilotsOf xs) (payIn flown) 16384
+    pay-few i j hi hj = omega (arith, here .feasible .payInGain i j hi hj, limits is .jointGain i j hi hj)
+
+    wider : (f : ℕ → ℕ → ℕ) → Small (growersOf xs) (pilotsOf xs) f 128 → Small (growersOf xs) (pilotsOf xs) f 16384
+    wider f h i j hi hj = omega (arith, h i j hi hj)
 
     sound : Sound (ticketOf xs) (settlementOf (take (settlementCount xs) list))
     sound = sound-same same (own-same l long hn hm t (sym (same .growers)) (sym (same .pilots))) s

@@ -1,18 +1,16 @@
--- The squares and rows of a ticket's list, and the front of a settlement's list.
+-- The rows and the square of a ticket's list, and the front of a settlement's list.
 -- Assumes nothing.
 use Prim.Native.Nat.{ℕ, _+_, _*_, _<_, min}
 use mathlib.Core.Path.{_≡_}
-use mathlib.Core.List.{List}
+use mathlib.Core.List.{List, []}
 use lib.ListN.{getD, take}
-use Rattle.grid.specs.Grid.{Grid}
-use Rattle.grid.specs.Fill.{Filled}
+use Rattle.grid.specs.Fill.{FilledRow}
 use Rattle.reader.specs.Walk.{Numbers}
 use Rattle.reader.specs.Answer.{unpacked}
 use Rattle.reader.proofs.SettlementLaws.{SettlementShape}
-use Rattle.marker.specs.declared.Quantity.{Quantity}
-use Rattle.marker.specs.declared.Quantity.the-variants.{TariffCap, TariffGain, TariffPay, FreeCap, JointGain}
-use Rattle.marker.specs.View.{growersOf, pilotsOf, growerHoursOf, pilotHoursOf, quantityOf}
-use Rattle.grid.specs.Fill.{FilledRow}
+use Rattle.marker.specs.View.{growersOf, pilotsOf, growerHoursOf, pilotHoursOf}
+use Rattle.method.specs.declared.Terms.{Terms}
+use Rattle.method.specs.View.{termsIn}
 use Rattle.settler.specs.Settled.{SoundNumbers}
 
 -- xs are the numbers of a ticket that passes its checks
@@ -20,18 +18,28 @@ pub record IsTicket (xs : List ℕ) : Type 0 where
   pub bytes : List ℕ
   pub from : unpacked bytes ≡ Numbers xs
 
--- a quantity of the list in a square, as far as the market reaches
-abbrev pub InSquare : List ℕ → Quantity → Grid → Type 0
-InSquare xs q g = Filled (quantityOf q xs) (min 16 (growersOf xs)) (min 16 (pilotsOf xs)) g
+-- the terms whose five numbers stand from a place on
+abbrev pub termsFrom : List ℕ → ℕ → Terms
+termsFrom xs place = record {
+  «tariff_cap» = getD xs place 0;
+  «tariff_gain» = getD xs (place + 1) 0;
+  «tariff_pay» = getD xs (place + 2) 0;
+  «free_cap» = getD xs (place + 3) 0;
+  «joint_gain» = getD xs (place + 4) 0;
+}
 
-pub record Tables (xs growerHours pilotHours : List ℕ) (tariffCap tariffGain tariffPay freeCap jointGain : Grid) : Type 0 where
+-- the terms of m pairs in a row, from a place on
+abbrev pub TermsFrom : List ℕ → ℕ → ℕ → List Terms → Type 0
+TermsFrom xs place m row = (j : ℕ) → j < m → termsIn row j ≡ termsFrom xs (place + 5 * j)
+
+-- the terms of all pairs of n growers and m pilots, after everybody's hours
+abbrev pub TermsOf : List ℕ → ℕ → ℕ → List (List Terms) → Type 0
+TermsOf xs n m terms = (i : ℕ) → i < n → TermsFrom xs (3 + n + m + 5 * (i * m)) m (getD terms i [])
+
+pub record Tables (xs growerHours pilotHours : List ℕ) (terms : List (List Terms)) : Type 0 where
   pub growers : FilledRow (growerHoursOf xs) (min 16 (growersOf xs)) growerHours
   pub pilots : FilledRow (pilotHoursOf xs) (min 16 (pilotsOf xs)) pilotHours
-  pub tariffCaps : InSquare xs TariffCap tariffCap
-  pub tariffGains : InSquare xs TariffGain tariffGain
-  pub tariffPays : InSquare xs TariffPay tariffPay
-  pub freeCaps : InSquare xs FreeCap freeCap
-  pub jointGains : InSquare xs JointGain jointGain
+  pub pairs : TermsOf xs (growersOf xs) (pilotsOf xs) terms
 
 -- how many numbers a settlement has
 abbrev pub settlementCount : List ℕ → ℕ

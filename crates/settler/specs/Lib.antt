@@ -1,11 +1,3 @@
-pub mod View
-pub mod State
-pub mod Choice
-pub mod LateHours
-pub mod Changes
-pub mod Result
 pub mod Listing
 pub mod Settled
 pub mod FromList
-pub mod Jumps
-pub mod Moves

@@ -4,7 +4,8 @@ use Prim.Native.Nat.{ℕ, _+_, _*_, _<_}
 use mathlib.Core.Path.{_≡_}
 use mathlib.Core.List.{List}
 use lib.ListN.{getD, length}
-use Rattle.grid.specs.Grid.{Grid, at}
+use Rattle.method.specs.declared.Flown.{Flown}
+use Rattle.method.specs.Result.{flownAt}
 
 -- three numbers were written into a list from a place on, and nothing else changed
 pub record Written (l l′ : List ℕ) (place x y z : ℕ) : Type 0 where
@@ -22,8 +23,8 @@ pub record Headed (n m : ℕ) (l : List ℕ) : Type 0 where
   pub pilots : getD l 2 0 ≡ m
 
 -- then, for every pair in the ticket's order, tariff hours, free hours and pay
-pub record Listed (n m : ℕ) (tariff free pay : Grid) (l : List ℕ) : Type 0 where
+pub record Listed (n m : ℕ) (flown : List (List Flown)) (l : List ℕ) : Type 0 where
   pub head : Headed n m l
-  pub tariffHours : (i j : ℕ) → i < n → j < m → getD l (3 + 3 * (i * m + j)) 0 ≡ at tariff i j
-  pub freeHours : (i j : ℕ) → i < n → j < m → getD l (3 + 3 * (i * m + j) + 1) 0 ≡ at free i j
-  pub payPerHour : (i j : ℕ) → i < n → j < m → getD l (3 + 3 * (i * m + j) + 2) 0 ≡ at pay i j
+  pub tariffHours : (i j : ℕ) → i < n → j < m → getD l (3 + 3 * (i * m + j)) 0 ≡ flownAt flown i j .«tariff_hours»
+  pub freeHours : (i j : ℕ) → i < n → j < m → getD l (3 + 3 * (i * m + j) + 1) 0 ≡ flownAt flown i j .«free_hours»
+  pub payPerHour : (i j : ℕ) → i < n → j < m → getD l (3 + 3 * (i * m + j) + 2) 0 ≡ flownAt flown i j .pay

@@ -3,6 +3,7 @@ ghost use mathlib.Core.Path.{_≡_};
 ghost use Prim.Native.Nat.{_+_, _<_, _≤_};
 ghost use lib.ListN.{length};
 ghost use Rattle.settler.specs.Listing.{Written, Listed};
+use method::Flown;
 
 // The kind of a file that is a settlement.
 const SETTLEMENT: u16 = 2;
@@ -32,23 +33,16 @@ fn write_three(list: &mut [u16; 771], place: usize, x: u16, y: u16, z: u16)
 }
 
 // The list of kind, growers and pilots, then for every pair its tariff hours, its free hours and the pay per free hour.
-pub(crate) fn listed(
-    growers: usize,
-    pilots: usize,
-    tariff: [[u16; 16]; 16],
-    free: [[u16; 16]; 16],
-    pay: [[u16; 16]; 16],
-) -> [u16; 771]
+pub(crate) fn listed(growers: usize, pilots: usize, flown: [[Flown; 16]; 16]) -> [u16; 771]
     requires { ⌜ (growers ≤ 16) × (pilots ≤ 16) ⌝ }
-    ensures { λ r. ⌜ (length r ≡ 771) × Listed growers pilots tariff free pay r ⌝ }
+    ensures { λ r. ⌜ (length r ≡ 771) × Listed growers pilots flown r ⌝ }
 {
     let mut list = blank();
     write_three(&mut list, 0, SETTLEMENT, count(growers), count(pilots));
     let pairs = growers * pilots;
     for k in 0..pairs {
-        let i = k / pilots;
-        let j = k % pilots;
-        write_three(&mut list, 3 + 3 * k, tariff[i][j], free[i][j], pay[i][j]);
+        let pair = flown[k / pilots][k % pilots];
+        write_three(&mut list, 3 + 3 * k, pair.tariff_hours, pair.free_hours, pair.pay);
     }
     list
 }

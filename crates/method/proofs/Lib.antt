@@ -1,0 +1,12 @@
+pub mod Totals
+pub mod Filling
+pub mod Bounds
+pub mod GreatestDeals
+pub mod Asking
+pub mod LateSearch
+pub mod HourChanges
+pub mod TurnLaws
+pub mod EuroPrices
+pub mod Soundness
+pub mod JumpLaws
+pub mod JumpTurns

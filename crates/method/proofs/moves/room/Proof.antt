@@ -1,0 +1,35 @@
+-- `method::moves::room` meets its contract.
+-- Assumes nothing.
+use native.Mathlib.Omega.{arith}
+use borrow.Author.Needs.{needs}
+use Rattle.method.proofs.moves.room.Statement.{statement}
+use Rattle.method.proofs.moves.room.Tie as tie
+
+sub-result : tie.Need-sub-result
+sub-result c = let h = rw (c .before .before .enum-told .given .1) at (c .before .before .before .before .pre) in omega arith
+
+sub-result-2 : tie.Need-sub-result-2
+sub-result-2 c = let h = rw (c .before .before .before .enum-told2 .given .1) at (c .before .before .before .before .before .pre) in omega arith
+
+returns : tie.Need-returns
+returns c = let h = rw (c .before .before .enum-told .given .1) at (c .before .before .before .before .pre) in rw (c .before .before .enum-told .given .1) (omega arith)
+
+returns-2 : tie.Need-returns-2
+returns-2 c = let h = rw (c .before .before .before .enum-told2 .given .1) at (c .before .before .before .before .before .pre) in rw (c .before .before .before .enum-told2 .given .1) (omega arith)
+
+pub room-spec : {M : Type 1} → statement M
+room-spec =
+    tie.close
+    (tie.spec
+    (λ c. search needs)
+    (λ c κs. search needs)
+    (λ c κs. search needs)
+    sub-result
+    (λ c. search needs)
+    (λ c κs. search needs)
+    (λ c κs. search needs)
+    (λ c κs. search needs)
+    (λ c. search needs)
+    sub-result-2
+    returns
+    returns-2)

@@ -1,0 +1,58 @@
+-- What the search for the next deal finds.
+-- Assumes nothing.
+use Prim.Native.Nat.{ℕ, suc, _+_, _*_, _-_, _≤_, _<_}
+use mathlib.Core.Path.{_≡_}
+use lib.Dec.{leb, ltb}
+use Rattle.grid.specs.Pick.{pick}
+use Rattle.market.specs.declared.Deal.{Deal}
+use Rattle.market.specs.Market.{Ticket, cap, usedByGrower}
+use Rattle.market.specs.Method.{Held, hoursOf, offer, Done}
+use Rattle.method.specs.declared.Terms.{Terms}
+use Rattle.method.specs.declared.Agreed.{Agreed}
+use Rattle.method.specs.declared.Best.{Best}
+use Rattle.method.specs.declared.Best.the-variants.{Nothing, Offer}
+use Rattle.method.specs.declared.Next.{Next}
+use Rattle.method.specs.declared.Next.the-variants.{Finished, Serve}
+
+-- what a deal of grower i offers, if it is below its cap, else 0
+abbrev pub chance : Ticket → (ℕ → ℕ) → Held → ℕ → Deal → ℕ → ℕ
+chance t price held i d j = pick (ltb (hoursOf held d i j) (cap t d i j)) (offer t price d i j) 0
+
+-- the same of one pair, at the pilot's price
+abbrev pub tariffChance : Terms → Agreed → ℕ → ℕ
+tariffChance terms agreed price =
+    pick (ltb (agreed .«by_tariff») (terms .«tariff_cap»))
+    (pick (leb price (18 * terms .«tariff_pay»)) (suc (18 * terms .«tariff_gain»)) 0) 0
+
+abbrev pub freeChance : Terms → Agreed → ℕ → ℕ
+freeChance terms agreed price =
+    pick (ltb (agreed .«old_free» + agreed .«new_free») (terms .«free_cap»)) (suc (18 * terms .«joint_gain») - price) 0
+
+-- the place of the greatest f of both deals with the first k pilots, or nothing if they all are 0
+abbrev pub Greatest : (Deal → ℕ → ℕ) → ℕ → Best → Type 0
+Greatest f k Nothing = (d : Deal) (j : ℕ) → j < k → f d j ≡ 0
+Greatest f k (Offer j d) = (j < k) × (0 < f d j) × ((e : Deal) (l : ℕ) → l < k → f e l ≤ f d j)
+
+-- deal d with pilot j is open, and no open deal offers grower i more, who has a free hour
+pub record Wanted (t : Ticket) (price : ℕ → ℕ) (held : Held) (d : Deal) (i j : ℕ) : Type 0 where
+  pub grower : i < t .growers
+  pub pilot : j < t .pilots
+  pub free : usedByGrower t (hoursOf held) i < t .growerHours i
+  pub room : hoursOf held d i j < cap t d i j
+  pub taken : 0 < offer t price d i j
+  pub most : (e : Deal) (l : ℕ) → l < t .pilots → hoursOf held e i l < cap t e i l → offer t price e i l ≤ offer t price d i j
+
+-- grower i has no free hour or no open deal
+abbrev pub AsksNothing : Ticket → (ℕ → ℕ) → Held → ℕ → Type 0
+AsksNothing t price held i = (d : Deal) (j : ℕ) → j < t .pilots → usedByGrower t (hoursOf held) i < t .growerHours i →
+    hoursOf held d i j < cap t d i j → offer t price d i j ≤ 18 * t .growerStandby i
+
+-- what grower i asks for
+abbrev pub Asked : Ticket → (ℕ → ℕ) → Held → ℕ → Best → Type 0
+Asked t price held i Nothing = AsksNothing t price held i
+Asked t price held i (Offer j d) = Wanted t price held d i j
+
+-- the deal to serve next, or the end of the method
+abbrev pub NextIs : Ticket → (ℕ → ℕ) → Held → Next → Type 0
+NextIs t price held Finished = Done t price held
+NextIs t price held (Serve place) = Wanted t price held (place .deal) (place .grower) (place .pilot)

@@ -1,0 +1,44 @@
+-- A ticket that can be settled, and what holds of the state of the method: the prices and the square of held hours.
+-- Assumes nothing.
+use Prim.Native.Nat.{ℕ, _≤_, _<_}
+use mathlib.Core.Path.{_≡_}
+use mathlib.Core.List.{List}
+use lib.ListN.{length}
+use Rattle.market.specs.Market.{Ticket}
+use Rattle.market.specs.Method.{Invariant, Done}
+use Rattle.market.specs.Steps.{measure}
+use Rattle.method.specs.declared.Agreed.{Agreed}
+use Rattle.method.specs.View.{line, heldIn}
+use Rattle.method.specs.Changes.{Full}
+
+-- a ticket of 16-bit numbers that fits the squares, whose parties ask nothing for a free hour
+pub record Fit (t : Ticket) : Type 0 where
+  pub growers : t .growers ≤ 16
+  pub pilots : t .pilots ≤ 16
+  pub tariffCap : (i j : ℕ) → t .tariffCap i j < 65536
+  pub freeCap : (i j : ℕ) → t .freeCap i j < 65536
+  pub tariffPay : (i j : ℕ) → t .tariffPay i j < 65536
+  pub jointGain : (i j : ℕ) → t .jointGain i j < 65536
+  pub growerStandby : (i : ℕ) → t .growerStandby i ≡ 0
+  pub pilotStandby : (j : ℕ) → t .pilotStandby j ≡ 0
+
+-- what holds before and after every turn
+pub record Live (t : Ticket) (prices : List ℕ) (held : List (List Agreed)) : Type 0 where
+  pub full : Full held
+  pub sixteen : length prices ≡ 16
+  pub low : (j : ℕ) → j < t .pilots → line prices j ≤ 1179631
+  pub inv : Invariant t (line prices) (heldIn held)
+
+-- what is left to do; 1179631 is above 18 times every amount
+abbrev pub leftToDo : Ticket → List ℕ → List (List Agreed) → ℕ
+leftToDo t prices held = measure t (line prices) (heldIn held) 1179631
+
+-- a turn from one state to the next
+pub record Turned (t : Ticket) (prices : List ℕ) (held : List (List Agreed)) (prices′ : List ℕ) (held′ : List (List Agreed)) : Type 0 where
+  pub live : Live t prices′ held′
+  pub less : leftToDo t prices′ held′ < leftToDo t prices held
+
+-- the end of the method
+pub record Ended (t : Ticket) (prices : List ℕ) (held : List (List Agreed)) : Type 0 where
+  pub live : Live t prices held
+  pub done : Done t (line prices) (heldIn held)

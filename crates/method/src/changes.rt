@@ -1,0 +1,142 @@
+// Changes of the state: hours come into a deal and leave it, a price rises.
+ghost use mathlib.Core.Path.{_≡_};
+ghost use Prim.Native.Nat.{ℕ, _+_, _<_, _≤_};
+ghost use lib.ListN.{getD, set};
+ghost use Rattle.market.specs.Method.{slotFor};
+ghost use Rattle.market.specs.Steps.{Added};
+ghost use Rattle.method.specs.View.{heldIn, hoursHeld, agreedAt};
+ghost use Rattle.method.specs.LateHours.{lateSlot};
+ghost use Rattle.method.specs.Changes.{Full, MoreHeld, putCell, agedPair, Aged, Swap};
+use crate::Agreed;
+use crate::late::late_count;
+use crate::numbers::least;
+use crate::numbers::narrow;
+use market::Deal;
+
+// The hours of a pair when x more come into a deal; in the free deal they are new.
+fn more(agreed: Agreed, deal: Deal, x: u16) -> Agreed
+    requires { ⌜ hoursHeld agreed (slotFor deal) + x < 65536 ⌝ }
+    ensures { λ r. ⌜ MoreHeld agreed r (slotFor deal) x ⌝ }
+{
+    match deal {
+        Deal::Tariff => Agreed {
+            by_tariff: agreed.by_tariff + x,
+            old_free: agreed.old_free,
+            new_free: agreed.new_free,
+        },
+        Deal::Free => Agreed {
+            by_tariff: agreed.by_tariff,
+            old_free: agreed.old_free,
+            new_free: agreed.new_free + x,
+        },
+    }
+}
+
+// The hours of a pair when x late ones leave a deal.
+fn fewer(agreed: Agreed, deal: Deal, x: u16) -> Agreed
+    requires { ⌜ x ≤ hoursHeld agreed (lateSlot deal) ⌝ }
+    ensures { λ r. ⌜ MoreHeld r agreed (lateSlot deal) x ⌝ }
+{
+    match deal {
+        Deal::Tariff => Agreed {
+            by_tariff: agreed.by_tariff - x,
+            old_free: agreed.old_free,
+            new_free: agreed.new_free,
+        },
+        Deal::Free => Agreed {
+            by_tariff: agreed.by_tariff,
+            old_free: agreed.old_free - x,
+            new_free: agreed.new_free,
+        },
+    }
+}
+
+fn with_cell(held: [[Agreed; 16]; 16], i: usize, j: usize, agreed: Agreed) -> [[Agreed; 16]; 16]
+    requires { ⌜ (i < 16) × (j < 16) ⌝ }
+    ensures { λ r. ⌜ r ≡ putCell held i j agreed ⌝ }
+{
+    let mut next = held;
+    next[i][j] = agreed;
+    next
+}
+
+// x hours come into a deal of grower i and pilot j.
+pub(crate) fn add_hours(
+    held: [[Agreed; 16]; 16],
+    deal: Deal,
+    i: usize,
+    j: usize,
+    x: u16,
+) -> [[Agreed; 16]; 16]
+    requires { ⌜ Full held × (i < 16) × (j < 16) × (heldIn held (slotFor deal) i j + x < 65536) ⌝ }
+    ensures { λ r. ⌜ Full r × Added (heldIn held) (heldIn r) (slotFor deal) i j x ⌝ }
+{
+    let agreed = more(held[i][j], deal, x);
+    with_cell(held, i, j, agreed)
+}
+
+// x late hours leave a deal of grower i and pilot j.
+fn take_hours(
+    held: [[Agreed; 16]; 16],
+    deal: Deal,
+    i: usize,
+    j: usize,
+    x: u16,
+) -> [[Agreed; 16]; 16]
+    requires { ⌜ Full held × (i < 16) × (j < 16) × (x ≤ heldIn held (lateSlot deal) i j) ⌝ }
+    ensures { λ r. ⌜ Full r × Added (heldIn r) (heldIn held) (lateSlot deal) i j x ⌝ }
+{
+    let agreed = fewer(held[i][j], deal, x);
+    with_cell(held, i, j, agreed)
+}
+
+// At most x hours come into a deal of grower i and pilot j, and as many late hours of the pilot leave a deal with grower `giver`.
+pub(crate) fn swap_hours(
+    held: [[Agreed; 16]; 16],
+    deal: Deal,
+    i: usize,
+    j: usize,
+    given: Deal,
+    giver: usize,
+    x: u32,
+) -> [[Agreed; 16]; 16]
+    requires { ⌜ Full held × (i < 16) × (j < 16) × (giver < 16) × (0 < x) × (heldIn held (slotFor deal) i j + x < 65536) ⌝ }
+    requires { ⌜ 0 < heldIn held (lateSlot given) giver j ⌝ }
+    ensures { λ r. ⌜ Swap held r deal i j given giver x ⌝ }
+{
+    let count = narrow(least(x, late_count(held[giver][j], given)));
+    let put = add_hours(held, deal, i, j, count);
+    take_hours(put, given, giver, j, count)
+}
+
+// The hours of a pair when the new ones have become old.
+fn aged(agreed: Agreed) -> Agreed
+    requires { ⌜ agreed .«old_free» + agreed .«new_free» < 65536 ⌝ }
+    ensures { λ r. ⌜ r ≡ agedPair agreed ⌝ }
+{
+    Agreed {
+        by_tariff: agreed.by_tariff,
+        old_free: agreed.old_free + agreed.new_free,
+        new_free: 0,
+    }
+}
+
+// All new hours of pilot j become old.
+pub(crate) fn age(held: [[Agreed; 16]; 16], growers: usize, j: usize) -> [[Agreed; 16]; 16]
+    requires { ⌜ Full held × (growers ≤ 16) × (j < 16) ⌝ }
+    requires { ⌜ ((i : ℕ) → i < growers → agreedAt held i j .«old_free» + agreedAt held i j .«new_free» < 65536) ⌝ }
+    ensures { λ r. ⌜ Full r × Aged held r j growers ⌝ }
+{
+    let mut next = held;
+    for i in 0..growers {
+        next[i][j] = aged(next[i][j]);
+    }
+    next
+}
+
+pub(crate) fn raise_price(price: &mut [u32; 16], j: usize)
+    requires { ⌜ (j < 16) × (getD (now price) j 0 ≤ 1179631) ⌝ }
+    ensures { λ _. ⌜ now (price .exit) ≡ set (now (price .entry)) j (getD (now (price .entry)) j 0 + 1) ⌝ }
+{
+    price[j] = price[j] + 1;
+}

@@ -1,0 +1,140 @@
+// The start and the end: no hours and no prices; then prices in whole euros, and what everybody flies.
+ghost use mathlib.Core.Path.{_≡_};
+ghost use Prim.Native.Nat.{ℕ, _+_, _<_, _≤_};
+ghost use mathlib.Core.List.{[]};
+ghost use lib.ListN.{getD, length};
+ghost use Rattle.market.specs.Method.{GoodShift};
+ghost use Rattle.method.specs.View.{line, ticket, agreedIn, agreedAt, noHours};
+ghost use Rattle.method.specs.Changes.{Full};
+ghost use Rattle.method.specs.Result.{payAt, flownOf, FlownOfGrower, FlownOf, Clash};
+use crate::Agreed;
+use crate::Flown;
+use crate::numbers::narrow;
+
+pub(crate) fn zero_prices() -> [u32; 16]
+    ensures { λ r. ⌜ (length r ≡ 16) × ((j : ℕ) → line r j ≡ 0) ⌝ }
+{
+    [0u32; 16]
+}
+
+fn no_hours_of_grower() -> [Agreed; 16]
+    ensures { λ r. ⌜ (length r ≡ 16) × ((j : ℕ) → agreedIn r j ≡ noHours) ⌝ }
+{
+    let none = Agreed {
+        by_tariff: 0,
+        old_free: 0,
+        new_free: 0,
+    };
+    [none; 16]
+}
+
+pub(crate) fn no_hours() -> [[Agreed; 16]; 16]
+    ensures { λ r. ⌜ Full r × ((i j : ℕ) → agreedAt r i j ≡ noHours) ⌝ }
+{
+    let row = no_hours_of_grower();
+    [row; 16]
+}
+
+// The first pilot whose price, moved up by `shift`, is a whole number of euros; `pilots` if there is none.
+fn clash(pilots: usize, price: [u32; 16], shift: u32) -> usize
+    requires { ⌜ (pilots ≤ 16) × (shift ≤ 16) ⌝ }
+    requires { ⌜ ((j : ℕ) → j < pilots → line price j ≤ 1179631) ⌝ }
+    ensures { λ j. ⌜ Clash price pilots shift j ⌝ }
+{
+    for j in 0..pilots {
+        if (price[j] + shift) % 18 == 0 {
+            return j;
+        }
+    }
+    pilots
+}
+
+// A number to add to every price before it is rounded down to euros.
+pub(crate) fn rounding(pilots: usize, price: [u32; 16]) -> u32
+    requires { ⌜ pilots ≤ 16 ⌝ }
+    requires { ⌜ ((j : ℕ) → j < pilots → line price j ≤ 1179631) ⌝ }
+    ensures { λ r. ⌜ GoodShift (ticket 0 pilots [] [] []) (line price) r ⌝ }
+{
+    let mut shift: u32 = 0;
+    while shift < 17 {
+        if pilots <= clash(pilots, price, shift) {
+            return shift;
+        }
+        shift += 1;
+    }
+    0
+}
+
+// The pay for a free hour, 0 where the pair has none.
+fn pay(hours: u16, price: u32, shift: u32) -> u16
+    requires { ⌜ (price ≤ 1179631) × (shift ≤ 16) ⌝ }
+    ensures { λ r. ⌜ r ≡ payAt price shift hours ⌝ }
+{
+    if 0 < hours {
+        narrow((price + shift) / 18)
+    } else {
+        0
+    }
+}
+
+// What a pair flies that holds these hours.
+fn flown(agreed: Agreed, price: u32, shift: u32) -> Flown
+    requires { ⌜ (agreed .«old_free» + agreed .«new_free» < 65536) × (price ≤ 1179631) × (shift ≤ 16) ⌝ }
+    ensures { λ r. ⌜ r ≡ flownOf agreed price shift ⌝ }
+{
+    let free = agreed.old_free + agreed.new_free;
+    Flown {
+        tariff_hours: agreed.by_tariff,
+        free_hours: free,
+        pay: pay(free, price, shift),
+    }
+}
+
+fn nothing_flown() -> [Flown; 16]
+    ensures { λ r. ⌜ length r ≡ 16 ⌝ }
+{
+    let none = Flown {
+        tariff_hours: 0,
+        free_hours: 0,
+        pay: 0,
+    };
+    [none; 16]
+}
+
+fn nobody_flies() -> [[Flown; 16]; 16]
+    ensures { λ r. ⌜ length r ≡ 16 ⌝ }
+{
+    let row = nothing_flown();
+    [row; 16]
+}
+
+// What a grower's first pilots fly for him.
+fn flown_row(pilots: usize, agreed: [Agreed; 16], price: [u32; 16], shift: u32) -> [Flown; 16]
+    requires { ⌜ (pilots ≤ 16) × (shift ≤ 16) × ((j : ℕ) → j < pilots → line price j ≤ 1179631) ⌝ }
+    requires { ⌜ ((j : ℕ) → j < pilots → agreedIn agreed j .«old_free» + agreedIn agreed j .«new_free» < 65536) ⌝ }
+    ensures { λ r. ⌜ FlownOfGrower agreed price shift pilots r ⌝ }
+{
+    let mut row = nothing_flown();
+    for j in 0..pilots {
+        row[j] = flown(agreed[j], price[j], shift);
+    }
+    row
+}
+
+pub(crate) fn flown_square(
+    growers: usize,
+    pilots: usize,
+    held: [[Agreed; 16]; 16],
+    price: [u32; 16],
+    shift: u32,
+) -> [[Flown; 16]; 16]
+    requires { ⌜ (growers ≤ 16) × (pilots ≤ 16) × (shift ≤ 16) × ((j : ℕ) → j < pilots → line price j ≤ 1179631) ⌝ }
+    requires { ⌜ ((i j : ℕ) → i < growers → j < pilots → agreedAt held i j .«old_free» + agreedAt held i j .«new_free» < 65536) ⌝ }
+    ensures { λ r. ⌜ FlownOf held price shift growers pilots r ⌝ }
+{
+    let mut square = nobody_flies();
+    for i in 0..growers {
+        square[i] = flown_row(pilots, held[i], price, shift);
+    }
+    square
+}

@@ -1,0 +1,94 @@
+// What a turn does for the deal that is to be served: hours come into it while its pilot has free ones, or in place of late hours of
+// his; if he has neither, his price rises.
+ghost use mathlib.Core.Path.{_≡_};
+ghost use Prim.Native.Nat.{_+_, _<_, _≤_};
+ghost use mathlib.Core.List.{[]};
+ghost use Rattle.market.specs.Market.{usedByGrower, usedByPilot};
+ghost use Rattle.market.specs.Method.{hoursOf};
+ghost use Rattle.method.specs.View.{ticket, alone, heldIn, heldBy, termsIn, agreedIn, capOf, hoursIn};
+ghost use Rattle.method.specs.Changes.{Room};
+ghost use Rattle.method.specs.Moves.{MoveIs};
+use crate::Agreed;
+use crate::LateHour;
+use crate::Move;
+use crate::Terms;
+use crate::choice::pair_hours;
+use crate::choice::used_by_grower;
+use crate::late::late_hour;
+use crate::numbers::least;
+use crate::numbers::narrow;
+use crate::numbers::wide;
+use market::Deal;
+
+// How many hours a deal of a grower and a pilot has room for.
+fn room(terms: Terms, agreed: Agreed, deal: Deal) -> u32
+    requires { ⌜ hoursIn agreed deal < capOf terms deal ⌝ }
+    ensures { λ r. ⌜ (0 < r) × (hoursIn agreed deal + r ≡ capOf terms deal) ⌝ }
+{
+    match deal {
+        Deal::Tariff => wide(terms.tariff_cap) - wide(agreed.by_tariff),
+        Deal::Free => wide(terms.free_cap) - (wide(agreed.old_free) + wide(agreed.new_free)),
+    }
+}
+
+// How many hours a grower has free and his deal with pilot j has room for.
+pub(crate) fn most_hours(
+    terms: [Terms; 16],
+    agreed: [Agreed; 16],
+    hours: u16,
+    pilots: usize,
+    deal: Deal,
+    j: usize,
+) -> u32
+    requires { ⌜ (pilots ≤ 16) × (j < 16) × (hoursIn (agreedIn agreed j) deal < capOf (termsIn terms j) deal) ⌝ }
+    requires { ⌜ usedByGrower (alone pilots 0 []) (hoursOf (heldBy agreed)) 0 < hours ⌝ }
+    ensures { λ r. ⌜ Room (alone pilots hours terms) (heldBy agreed) deal 0 j r ⌝ }
+{
+    let free = wide(hours) - used_by_grower(agreed, pilots);
+    least(free, room(terms[j], agreed[j], deal))
+}
+
+// The hours that pilot j holds with the first growers.
+pub(crate) fn used_by_pilot(held: [[Agreed; 16]; 16], j: usize, growers: usize) -> u32
+    requires { ⌜ (j < 16) × (growers ≤ 16) ⌝ }
+    ensures { λ r. ⌜ r ≡ usedByPilot (ticket growers 0 [] [] []) (hoursOf (heldIn held)) j ⌝ }
+{
+    let mut total: u32 = 0;
+    for i in 0..growers {
+        total += pair_hours(held[i][j]);
+    }
+    total
+}
+
+// The free hours of pilot j.
+fn free_of_pilot(growers: usize, hours: u16, held: [[Agreed; 16]; 16], j: usize) -> u32
+    requires { ⌜ (growers ≤ 16) × (j < 16) × (usedByPilot (ticket growers 0 [] [] []) (hoursOf (heldIn held)) j ≤ hours) ⌝ }
+    ensures { λ r. ⌜ usedByPilot (ticket growers 0 [] [] []) (hoursOf (heldIn held)) j + r ≡ hours ⌝ }
+{
+    wide(hours) - used_by_pilot(held, j, growers)
+}
+
+// The move for a deal of pilot j that could get `most` hours.
+pub(crate) fn next_move(
+    growers: usize,
+    hours: u16,
+    terms: [[Terms; 16]; 16],
+    price: u32,
+    held: [[Agreed; 16]; 16],
+    j: usize,
+    most: u32,
+) -> Move
+    requires { ⌜ (growers ≤ 16) × (j < 16) × (0 < most) × (most < 65536) ⌝ }
+    requires { ⌜ usedByPilot (ticket growers 0 [] [] []) (hoursOf (heldIn held)) j ≤ hours ⌝ }
+    ensures { λ r. ⌜ MoveIs (ticket growers 0 [] [] terms) hours (λ _. price) (heldIn held) j most r ⌝ }
+{
+    let free = free_of_pilot(growers, hours, held, j);
+    if 0 < free {
+        return Move::Add(narrow(least(most, free)));
+    }
+    let late = late_hour(growers, terms, price, held, j);
+    match late {
+        LateHour::Hour(giver, given) => Move::Swap(giver, given),
+        LateHour::NoHour => Move::Rise,
+    }
+}
