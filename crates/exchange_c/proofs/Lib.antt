@@ -1,0 +1,3 @@
+-- The laws of the numbers that C gets: they fit, and nothing is lost in them.
+pub mod ReplyLaws
+pub mod MarkLaws

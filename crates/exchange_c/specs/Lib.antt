@@ -1,0 +1,3 @@
+-- The definitions that the contracts of `exchange_c` cite: the numbers that C gets.
+pub mod Replies
+pub mod Marks

@@ -1,0 +1,57 @@
+// The exchange for programs in C: the proved operations under plain names, each answering one number.
+// A slice is a pointer and a length to C. `include/hours_exchange.h` declares these functions.
+mod marks;
+mod replies;
+
+ghost use mathlib.Core.Path.{_≡_};
+ghost use lib.ListN.{length};
+ghost use Rattle.reader.specs.Answer.{unpacked, packed, reply, kept};
+ghost use Rattle.marker.specs.Marked.{marked};
+ghost use Rattle.settler.specs.Settled.{Settled};
+ghost use Rattle.sheets.specs.Sheeted.{Sheeted};
+ghost use Rattle.exchange_c.specs.Replies.{replyNumber, NumberOf};
+ghost use Rattle.exchange_c.specs.Marks.{markNumber};
+use marks::mark_number;
+use replies::reply_number;
+
+// `reader::unpack`: the count of a ticket's numbers, or a refusal.
+#[no_mangle]
+pub extern "C" fn exchange_unpack(ticket: &[u8], list: &mut [u16]) -> u32
+    ensures { λ r. ⌜ r ≡ replyNumber (reply (length (now (list .entry))) (unpacked (now (ticket .entry)))) ⌝ }
+    ensures { λ _. ⌜ now (list .exit) ≡ kept (now (list .entry)) (unpacked (now (ticket .entry))) ⌝ }
+{
+    reply_number(reader::unpack(ticket, list))
+}
+
+// `reader::pack`: the length of a ticket in bytes, or a refusal.
+#[no_mangle]
+pub extern "C" fn exchange_pack(list: &[u16], ticket: &mut [u8]) -> u32
+    ensures { λ r. ⌜ r ≡ replyNumber (reply (length (now (ticket .entry))) (packed (now (list .entry)))) ⌝ }
+    ensures { λ _. ⌜ now (ticket .exit) ≡ kept (now (ticket .entry)) (packed (now (list .entry))) ⌝ }
+{
+    reply_number(reader::pack(list, ticket))
+}
+
+// `settler::settle`: the length of a sound settlement in bytes, or a refusal.
+#[no_mangle]
+pub extern "C" fn exchange_settle(ticket: &[u8], settlement: &mut [u8]) -> u32
+    ensures { λ r. ⌜ NumberOf (Settled (unpacked (now (ticket .entry))) (now (settlement .entry)) (now (settlement .exit))) r ⌝ }
+{
+    reply_number(settler::settle(ticket, settlement))
+}
+
+// `sheets::sheet`: the length of a ticket's sheet in bytes, or the refusal of a buffer that is too short.
+#[no_mangle]
+pub extern "C" fn exchange_sheet(ticket: &[u8], text: &mut [u8]) -> u32
+    ensures { λ r. ⌜ NumberOf (Sheeted (unpacked (now (ticket .entry))) (now (text .entry)) (now (text .exit))) r ⌝ }
+{
+    reply_number(sheets::sheet(ticket, text))
+}
+
+// `marker::mark`: the verdict on a settlement with its places and count, or a refusal.
+#[no_mangle]
+pub extern "C" fn exchange_mark(ticket: &[u8], settlement: &[u8]) -> u64
+    ensures { λ r. ⌜ r ≡ markNumber (marked (now (ticket .entry)) (now (settlement .entry))) ⌝ }
+{
+    mark_number(marker::mark(ticket, settlement))
+}
