@@ -15,8 +15,9 @@ abbrev pub after : ℕ → ℕ → ℕ
 after zero x = x
 after (suc k) x = after k (next x)
 
--- Where a seed starts: at the fifth power of a number that is not 0, since 0 would stay 0. Seeds that are near start far apart, and
--- different seeds below 2,147,483,646 at different numbers, because 5 has no divisor in common with the prime less one.
+-- Where a seed starts: at the fifth power of a number that is not 0, since 0 would stay 0. So seeds that are near start far apart.
+-- Nothing rests on it that different seeds below 2,147,483,646 start at different numbers; they do, as 5 does not divide the prime
+-- less one.
 abbrev pub fifth : ℕ → ℕ
 fifth x = times (times (times x x) (times x x)) x
 
