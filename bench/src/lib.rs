@@ -1,0 +1,3 @@
+//! The proved exchange beside a plain Rust one.
+
+pub mod plain;
