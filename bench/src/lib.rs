@@ -1,3 +1,5 @@
 //! The proved exchange beside a plain Rust one.
 
+pub mod draw;
 pub mod plain;
+pub mod proved;

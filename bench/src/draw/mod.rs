@@ -1,0 +1,7 @@
+//! Inputs drawn from a seed, and the tickets of the benchmark.
+
+pub mod damage;
+pub mod generator;
+pub mod settlements;
+pub mod shapes;
+pub mod tickets;

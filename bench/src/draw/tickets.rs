@@ -1,0 +1,98 @@
+//! Valid tickets drawn from a seed.
+
+use super::generator::Generator;
+use crate::plain::ticket::{Terms, Ticket};
+
+/// From where the numbers of a ticket are drawn.
+#[derive(Clone, Copy, Debug, PartialEq, Eq)]
+pub enum Style {
+    /// All ranges whole.
+    Wide,
+    /// Few hours, small caps and amounts: many ties.
+    Tight,
+    /// Pilots have fewer hours than growers, amounts are few: prices climb.
+    Scarce,
+    /// The first and last numbers of each range, and of numbers of one byte and of two.
+    Edges,
+    /// Tariff caps are 0.
+    OnlyFree,
+    /// Free caps are 0.
+    OnlyTariff,
+}
+
+pub const STYLES: [Style; 6] = [
+    Style::Wide,
+    Style::Tight,
+    Style::Scarce,
+    Style::Edges,
+    Style::OnlyFree,
+    Style::OnlyTariff,
+];
+
+/// A ticket of any size and style, small ones more often.
+pub fn any_ticket(generator: &mut Generator) -> Ticket {
+    let most = generator.one_of(&[2, 3, 4, 6, 9, 16]);
+    let growers = 1 + generator.below(most);
+    let pilots = 1 + generator.below(most);
+    let style = generator.one_of(&STYLES);
+    ticket(generator, growers, pilots, style)
+}
+
+pub fn ticket(generator: &mut Generator, growers: usize, pilots: usize, style: Style) -> Ticket {
+    let mut party_hours = |pilot| hours(generator, style, pilot);
+    Ticket {
+        grower_hours: (0..growers).map(|_| party_hours(false)).collect(),
+        pilot_hours: (0..pilots).map(|_| party_hours(true)).collect(),
+        terms: (0..growers * pilots)
+            .map(|_| terms(generator, style))
+            .collect(),
+    }
+}
+
+fn hours(generator: &mut Generator, style: Style, pilot: bool) -> u16 {
+    match style {
+        Style::Tight => generator.between(0, 4),
+        Style::Scarce if pilot => generator.between(0, 15),
+        Style::Scarce => generator.between(20, 60),
+        Style::Edges => generator.one_of(&[0, 1, 59, 60]),
+        Style::Wide | Style::OnlyFree | Style::OnlyTariff => generator.between(0, 60),
+    }
+}
+
+fn terms(generator: &mut Generator, style: Style) -> Terms {
+    let tariff_cap = match style {
+        Style::OnlyFree => 0,
+        _ => cap(generator, style),
+    };
+    let free_cap = match style {
+        Style::OnlyTariff => 0,
+        _ => cap(generator, style),
+    };
+    Terms {
+        tariff_cap,
+        tariff_gain: amount(generator, style, tariff_cap),
+        tariff_pay: amount(generator, style, tariff_cap),
+        free_cap,
+        joint_gain: amount(generator, style, free_cap),
+    }
+}
+
+fn cap(generator: &mut Generator, style: Style) -> u16 {
+    match style {
+        Style::Tight => generator.between(0, 3),
+        Style::Edges => generator.one_of(&[0, 1, 59, 60]),
+        _ if generator.once_in(5) => 0,
+        Style::Scarce => generator.between(1, 20),
+        _ => generator.between(1, 60),
+    }
+}
+
+fn amount(generator: &mut Generator, style: Style, cap: u16) -> u16 {
+    match style {
+        _ if cap == 0 => 0,
+        Style::Tight => generator.between(0, 5),
+        Style::Scarce => generator.one_of(&[60, 61, 80, 200, 201]),
+        Style::Edges => generator.one_of(&[0, 1, 127, 128, 499, 500]),
+        Style::Wide | Style::OnlyFree | Style::OnlyTariff => generator.between(0, 500),
+    }
+}

@@ -1,0 +1,89 @@
+//! The proved exchange, called over its C interface.
+
+use crate::plain::Deal;
+
+/// A refusal of the C interface, or what it answers else.
+pub type Answer<T> = Result<T, u8>;
+
+/// The marker's answer: the numbers are the paper's.
+#[derive(Clone, Copy, Debug, PartialEq, Eq)]
+pub struct Verdict {
+    pub number: u8,
+    pub grower: usize,
+    pub pilot: usize,
+    pub deal: Deal,
+    pub count: usize,
+}
+
+/// Numbers from here on are refusals, in operations that answer a count.
+const REFUSED: u32 = 65536;
+
+// A slice crosses as a pointer to its first element and its length.
+#[link(name = "exchange_c", kind = "static")]
+unsafe extern "C" {
+    fn exchange_unpack(ticket: *const u8, bytes: usize, list: *mut u16, places: usize) -> u32;
+    fn exchange_pack(list: *const u16, places: usize, ticket: *mut u8, bytes: usize) -> u32;
+    fn exchange_settle(ticket: *const u8, bytes: usize, settlement: *mut u8, room: usize) -> u32;
+    fn exchange_sheet(ticket: *const u8, bytes: usize, text: *mut u8, room: usize) -> u32;
+    fn exchange_mark(ticket: *const u8, bytes: usize, settlement: *const u8, length: usize) -> u64;
+}
+
+pub fn unpack(ticket: &[u8], list: &mut [u16]) -> Answer<usize> {
+    // SAFETY: pointers and lengths are those of slices that are lent for the call; here and below.
+    let number =
+        unsafe { exchange_unpack(ticket.as_ptr(), ticket.len(), list.as_mut_ptr(), list.len()) };
+    count_or_refusal(number)
+}
+
+pub fn pack(list: &[u16], ticket: &mut [u8]) -> Answer<usize> {
+    // SAFETY: as above.
+    let number =
+        unsafe { exchange_pack(list.as_ptr(), list.len(), ticket.as_mut_ptr(), ticket.len()) };
+    count_or_refusal(number)
+}
+
+pub fn settle(ticket: &[u8], settlement: &mut [u8]) -> Answer<usize> {
+    let room = settlement.len();
+    // SAFETY: as above.
+    let number =
+        unsafe { exchange_settle(ticket.as_ptr(), ticket.len(), settlement.as_mut_ptr(), room) };
+    count_or_refusal(number)
+}
+
+pub fn sheet(ticket: &[u8], text: &mut [u8]) -> Answer<usize> {
+    // SAFETY: as above.
+    let number =
+        unsafe { exchange_sheet(ticket.as_ptr(), ticket.len(), text.as_mut_ptr(), text.len()) };
+    count_or_refusal(number)
+}
+
+pub fn mark(ticket: &[u8], settlement: &[u8]) -> Answer<Verdict> {
+    let length = settlement.len();
+    // SAFETY: as above.
+    let number =
+        unsafe { exchange_mark(ticket.as_ptr(), ticket.len(), settlement.as_ptr(), length) };
+    verdict_or_refusal(number)
+}
+
+fn count_or_refusal(number: u32) -> Answer<usize> {
+    if number < REFUSED {
+        Ok(number as usize)
+    } else {
+        Err((number - REFUSED) as u8)
+    }
+}
+
+/// A refusal in the top byte; else verdict, grower, pilot and deal in a byte each, and the count above them.
+fn verdict_or_refusal(number: u64) -> Answer<Verdict> {
+    let [verdict, grower, pilot, deal, .., refusal] = number.to_le_bytes();
+    if refusal != 0 {
+        return Err(refusal);
+    }
+    Ok(Verdict {
+        number: verdict,
+        grower: usize::from(grower),
+        pilot: usize::from(pilot),
+        deal: Deal::BOTH[usize::from(deal)],
+        count: (number >> 32) as usize,
+    })
+}
