@@ -3,3 +3,5 @@
 pub mod draw;
 pub mod plain;
 pub mod proved;
+pub mod table;
+pub mod timing;

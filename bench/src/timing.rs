@@ -1,0 +1,48 @@
+//! Times of two functions, measured by turns.
+
+use std::hint::black_box;
+use std::time::{Duration, Instant};
+
+/// How many samples of each function are taken, where they are short enough.
+pub const SAMPLES: usize = 51;
+
+/// A sample is as many calls as take this long.
+pub const SAMPLE: Duration = Duration::from_micros(500);
+
+/// The median time of a call of each function. Samples of the two alternate, so that both meet the same machine.
+pub fn medians<R>(mut first: impl FnMut() -> R, mut second: impl FnMut() -> R) -> [Duration; 2] {
+    let calls = [calls_in_sample(&mut first), calls_in_sample(&mut second)];
+    let mut samples = [Vec::new(), Vec::new()];
+    for _ in 0..SAMPLES {
+        samples[0].push(sample(&mut first, calls[0]));
+        samples[1].push(sample(&mut second, calls[1]));
+    }
+    samples.map(median)
+}
+
+/// The time of one call, the median of three: for what takes long.
+pub fn median_of_three<R>(mut function: impl FnMut() -> R) -> Duration {
+    median((0..3).map(|_| sample(&mut function, 1)).collect())
+}
+
+fn calls_in_sample<R>(function: &mut impl FnMut() -> R) -> u32 {
+    let mut calls = 1;
+    while sample(function, calls) * calls < SAMPLE {
+        calls *= 2;
+    }
+    calls
+}
+
+/// The time of a call, over so many.
+fn sample<R>(function: &mut impl FnMut() -> R, calls: u32) -> Duration {
+    let start = Instant::now();
+    for _ in 0..calls {
+        black_box(function());
+    }
+    start.elapsed() / calls
+}
+
+fn median(mut times: Vec<Duration>) -> Duration {
+    times.sort_unstable();
+    times[times.len() / 2]
+}
