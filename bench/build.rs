@@ -9,9 +9,8 @@ fn main() {
     let archive = folder.join("libexchange_c.a");
     println!("cargo:rerun-if-changed={}", archive.display());
     if !archive.is_file() {
-        eprintln!(
-            "target/staticlib/libexchange_c.a is missing: run `rt staticlib exchange_c` first, in the repository's root"
-        );
+        eprintln!("target/staticlib/libexchange_c.a is missing.");
+        eprintln!("Run `rt staticlib exchange_c` first, in the repository's root.");
         exit(1);
     }
     println!("cargo:rustc-link-search=native={}", folder.display());

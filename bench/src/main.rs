@@ -59,9 +59,9 @@ fn settling_row(shape: &Shape) -> Vec<String> {
         time(proved),
         time(plain),
         ratio(proved, plain),
-        with.all.to_string(),
+        with.all().to_string(),
         with.jumps.to_string(),
-        without.all.to_string(),
+        without.all().to_string(),
         time(slow),
     ]
 }

@@ -27,19 +27,23 @@ pub fn median_of_three<R>(mut function: impl FnMut() -> R) -> Duration {
 
 fn calls_in_sample<R>(function: &mut impl FnMut() -> R) -> u32 {
     let mut calls = 1;
-    while sample(function, calls) * calls < SAMPLE {
+    while elapsed(function, calls) < SAMPLE {
         calls *= 2;
     }
     calls
 }
 
-/// The time of a call, over so many.
+/// The time of a call, the mean over so many.
 fn sample<R>(function: &mut impl FnMut() -> R, calls: u32) -> Duration {
+    elapsed(function, calls) / calls
+}
+
+fn elapsed<R>(function: &mut impl FnMut() -> R, calls: u32) -> Duration {
     let start = Instant::now();
     for _ in 0..calls {
         black_box(function());
     }
-    start.elapsed() / calls
+    start.elapsed()
 }
 
 fn median(mut times: Vec<Duration>) -> Duration {

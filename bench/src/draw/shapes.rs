@@ -4,7 +4,7 @@ use super::generator::Generator;
 use super::tickets::{Style, ticket};
 use crate::plain::ticket::{Terms, Ticket};
 
-/// Every hour and cap of a price war, and its amount.
+/// The most that anybody has, and the most that an hour is worth.
 const HOURS: u16 = 60;
 const AMOUNT: u16 = 500;
 
@@ -44,6 +44,10 @@ pub fn shapes() -> Vec<Shape> {
         ),
         shape("16 by 16, only free deals", drawn(16, Style::OnlyFree)),
         shape("16 by 16, only tariff deals", drawn(16, Style::OnlyTariff)),
+        shape(
+            "16 by 16, caps 1 to 5, pilots short of hours",
+            small_and_short(),
+        ),
     ]
 }
 
@@ -68,9 +72,24 @@ fn full() -> Ticket {
     })
 }
 
+/// Small caps, amounts that lie close together, and pilots who each lack a few hours: the hardest kind of ticket found.
+fn small_and_short() -> Ticket {
+    let mut generator = Generator::new(SEED);
+    let mut ticket = war(16, 16, |_, _| Terms {
+        tariff_cap: generator.between(1, 5),
+        tariff_gain: generator.between(300, AMOUNT),
+        tariff_pay: generator.between(300, AMOUNT),
+        free_cap: generator.between(1, 5),
+        joint_gain: generator.between(300, AMOUNT),
+    });
+    for hours in &mut ticket.pilot_hours {
+        *hours -= generator.between(1, 6);
+    }
+    ticket
+}
+
 /// Equal growers and equal pilots, who all have all hours, with terms for each pair.
-fn war(growers: usize, pilots: usize, terms: impl FnMut(usize, usize) -> Terms) -> Ticket {
-    let mut terms = terms;
+fn war(growers: usize, pilots: usize, mut terms: impl FnMut(usize, usize) -> Terms) -> Ticket {
     Ticket {
         grower_hours: vec![HOURS; growers],
         pilot_hours: vec![HOURS; pilots],

@@ -19,11 +19,18 @@ pub enum Rises {
     ByOne,
 }
 
-/// How long settling took.
+/// How many turns settling took: hours came into a deal, one price rose by one, or several rose in a jump.
 #[derive(Clone, Copy, Debug, Default, PartialEq, Eq)]
 pub struct Turns {
-    pub all: u64,
+    pub served: u64,
+    pub rises: u64,
     pub jumps: u64,
+}
+
+impl Turns {
+    pub fn all(&self) -> u64 {
+        self.served + self.rises + self.jumps
+    }
 }
 
 /// Writes a sound settlement of a ticket at the front of a lent buffer, and returns its length.
@@ -140,9 +147,13 @@ impl State {
         let mut turns = Turns::default();
         let mut from = 0;
         while let Some((grower, pilot, deal)) = self.next_deal(from) {
-            turns.all += 1;
-            if !self.serve(grower, pilot, deal) {
-                turns.jumps += u64::from(self.rise(pilot, rises));
+            if self.serve(grower, pilot, deal) {
+                turns.served += 1;
+            } else if rises == Rises::Jumps && jumps::jump(self, pilot) {
+                turns.jumps += 1;
+            } else {
+                self.rise(pilot);
+                turns.rises += 1;
             }
             from = grower;
         }
@@ -226,18 +237,14 @@ impl State {
         })
     }
 
-    /// A pilot's price rises: in a jump with others where that is possible, else by one. Says whether it was a jump.
-    fn rise(&mut self, pilot: usize, rises: Rises) -> bool {
-        if rises == Rises::Jumps && jumps::jump(self, pilot) {
-            return true;
-        }
+    /// A pilot's price rises by one, and his new hours become old.
+    fn rise(&mut self, pilot: usize) {
         for row in &mut self.held[..self.growers] {
             let held = &mut row[pilot];
             held.old += held.new;
             held.new = 0;
         }
         self.price[pilot] += 1;
-        false
     }
 
     /// The settlement, with prices in whole euros.

@@ -34,4 +34,5 @@ fn sheet_agrees() {
     }
     tally.report("sheet");
     tally.expect_refusals([10]);
+    tally.expect_kinds((1..=9).map(|number| format!("text REFUSED {number}")));
 }

@@ -56,10 +56,19 @@ impl Tally {
             .expect("the report is written");
     }
 
+    /// Inputs of these kinds were met, among others.
+    pub fn expect_kinds(&self, kinds: impl IntoIterator<Item = String>) {
+        for kind in kinds {
+            assert!(self.kinds.contains_key(&kind), "{kind} must be met");
+        }
+    }
+
+    /// Exactly these refusals were met.
     pub fn expect_refusals(&self, numbers: impl IntoIterator<Item = u8>) {
         expect_all("refusal", &self.refusals, numbers);
     }
 
+    /// Exactly these verdicts were met.
     pub fn expect_verdicts(&self, numbers: impl IntoIterator<Item = u8>) {
         expect_all("verdict", &self.verdicts, numbers);
     }
@@ -69,7 +78,6 @@ fn line(text: &mut String, words: std::fmt::Arguments) {
     writeln!(text, "    {words}").expect("a string takes every line");
 }
 
-/// Exactly these numbers were met.
 fn expect_all(name: &str, met: &BTreeMap<u8, u64>, numbers: impl IntoIterator<Item = u8>) {
     let expected: Vec<u8> = numbers.into_iter().collect();
     let met: Vec<u8> = met.keys().copied().collect();
