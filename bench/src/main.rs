@@ -6,10 +6,11 @@
 use std::time::Duration;
 
 use exchange_bench::draw::shapes::{Shape, random, shapes};
+use exchange_bench::plain::mark::Verdict;
 use exchange_bench::plain::settle::{Rises, settle, settle_ticket};
 use exchange_bench::plain::sheet::sheet;
 use exchange_bench::plain::ticket::{pack, unpack};
-use exchange_bench::plain::{cheapest, mark};
+use exchange_bench::plain::{Refusal, cheapest, mark};
 use exchange_bench::proved;
 use exchange_bench::table::{Table, ratio, time};
 use exchange_bench::timing::{SAMPLE, SAMPLES, median_of_three, medians};
@@ -22,7 +23,7 @@ const SHEET_BYTES: usize = 8216;
 
 fn main() {
     println!(
-        "Each time is the median of {SAMPLES} samples, proved and plain by turns. A sample is the mean of as many \
+        "Processor time, the median of {SAMPLES} samples, proved and plain by turns. A sample is the mean of as many \
          calls as take {} µs. Settling goes from the ticket's bytes to the settlement's.\n",
         SAMPLE.as_micros()
     );
@@ -76,32 +77,24 @@ fn settling_times(shape: &Shape) -> [Duration; 2] {
 }
 
 fn operations() -> Table {
-    let mut table = Table::new(&["16 by 16, random", "proved", "plain Rust", "ratio"]);
-    let mut push = |name: &str, [proved, plain]: [Duration; 2]| {
-        eprintln!("{name} ..");
-        table.push(vec![
-            name.to_string(),
-            time(proved),
-            time(plain),
-            ratio(proved, plain),
-        ]);
-    };
     let ticket = random().bytes();
-    push("unpack", unpack_times(&ticket));
-    push("pack", pack_times(&ticket));
     let settlement = settle_ticket(&random(), Rises::Jumps).0.bytes();
-    push(
-        "mark, plain Rust by cheapest spares too",
-        mark_times(&ticket, &settlement),
-    );
-    push(
-        "mark, plain Rust trying every two spares",
-        medians(
-            || proved::mark(&ticket, &settlement).is_ok(),
-            || mark::mark(&ticket, &settlement).is_ok(),
-        ),
-    );
-    push("sheet", sheet_times(&ticket));
+    let mut table = Table::new(&["16 by 16, random", "proved", "plain Rust", "ratio"]);
+    let mut push = |name: &str, times: &dyn Fn() -> [Duration; 2]| {
+        eprintln!("{name} ..");
+        let [proved, plain] = times();
+        let times = [time(proved), time(plain), ratio(proved, plain)];
+        table.push([name.to_string()].into_iter().chain(times).collect());
+    };
+    push("unpack", &|| unpack_times(&ticket));
+    push("pack", &|| pack_times(&ticket));
+    push("mark, plain Rust by cheapest spares too", &|| {
+        mark_times(&ticket, &settlement, cheapest::mark)
+    });
+    push("mark, plain Rust trying every two spares", &|| {
+        mark_times(&ticket, &settlement, mark::mark)
+    });
+    push("sheet", &|| sheet_times(&ticket));
     table
 }
 
@@ -124,10 +117,14 @@ fn pack_times(ticket: &[u8]) -> [Duration; 2] {
     )
 }
 
-fn mark_times(ticket: &[u8], settlement: &[u8]) -> [Duration; 2] {
+fn mark_times(
+    ticket: &[u8],
+    settlement: &[u8],
+    plain: impl Fn(&[u8], &[u8]) -> Result<Verdict, Refusal>,
+) -> [Duration; 2] {
     medians(
         || proved::mark(ticket, settlement).is_ok(),
-        || cheapest::mark(ticket, settlement).is_ok(),
+        || plain(ticket, settlement).is_ok(),
     )
 }
 

@@ -8,7 +8,7 @@ use super::settlement::{Agreement, Settlement};
 use super::ticket::{Terms, Ticket};
 use super::{Refusal, copy_to_front};
 
-/// Writes the sheet of a ticket at the front of a lent buffer, and returns its length. A refused ticket has a sheet too.
+/// Writes the sheet of a ticket at the front of a lent buffer, and returns its length. A refused ticket has one too.
 pub fn sheet(ticket: &[u8], text: &mut [u8]) -> Result<usize, Refusal> {
     copy_to_front(sheet_text(ticket).as_bytes(), text)
 }
