@@ -6,14 +6,13 @@
 use std::time::Duration;
 
 use exchange_bench::draw::shapes::{Shape, random, shapes};
-use exchange_bench::plain::mark::Verdict;
-use exchange_bench::plain::settle::{Rises, settle, settle_ticket};
+use exchange_bench::plain::settle::{Rises, Turns, settle, settle_ticket};
 use exchange_bench::plain::sheet::sheet;
-use exchange_bench::plain::ticket::{pack, unpack};
-use exchange_bench::plain::{Refusal, cheapest, mark};
+use exchange_bench::plain::ticket::{Ticket, pack, unpack};
+use exchange_bench::plain::{cheapest, mark};
 use exchange_bench::proved;
 use exchange_bench::table::{Table, ratio, time};
-use exchange_bench::timing::{SAMPLE, SAMPLES, median_of_three, medians};
+use exchange_bench::timing::{FEWEST_SAMPLES, MOST_SAMPLES, SAMPLE, median_of_three, medians};
 
 /// Sizes that always suffice.
 const SETTLEMENT_BYTES: usize = 1027;
@@ -23,8 +22,9 @@ const SHEET_BYTES: usize = 8216;
 
 fn main() {
     println!(
-        "Processor time, the median of {SAMPLES} samples, proved and plain by turns. A sample is the mean of as many \
-         calls as take {} µs. Settling goes from the ticket's bytes to the settlement's.\n",
+        "Processor time of one call, and turns of one settling, in the mean over the tickets of a row. Times are \
+         medians of {FEWEST_SAMPLES} to {MOST_SAMPLES} samples, proved and plain by turns, of at least {} µs each. \
+         Settling goes from the ticket's bytes to the settlement's.\n",
         SAMPLE.as_micros()
     );
     settling().print();
@@ -35,9 +35,11 @@ fn main() {
 fn settling() -> Table {
     let mut table = Table::new(&[
         "settle",
+        "tickets",
         "proved",
         "plain Rust",
         "ratio",
+        "slowest ticket, proved",
         "turns",
         "of them jumps",
         "turns without jumps",
@@ -51,34 +53,73 @@ fn settling() -> Table {
 }
 
 fn settling_row(shape: &Shape) -> Vec<String> {
-    let [proved, plain] = settling_times(shape);
-    let (_, with) = settle_ticket(&shape.ticket, Rises::Jumps);
-    let (_, without) = settle_ticket(&shape.ticket, Rises::ByOne);
-    let slow = median_of_three(|| settle_ticket(&shape.ticket, Rises::ByOne));
+    let tickets = &shape.tickets;
+    let count = tickets.len() as u64;
+    let [proved, plain] = settling_times(tickets);
+    let with = all_turns(tickets, Rises::Jumps);
+    let without = all_turns(tickets, Rises::ByOne);
+    let slow = median_of_three(|| all_turns(tickets, Rises::ByOne)) / count as u32;
     vec![
         shape.name.to_string(),
+        count.to_string(),
         time(proved),
         time(plain),
         ratio(proved, plain),
-        with.all().to_string(),
-        with.jumps.to_string(),
-        without.all().to_string(),
+        time(slowest(tickets)),
+        (with.all() / count).to_string(),
+        (with.jumps / count).to_string(),
+        (without.all() / count).to_string(),
         time(slow),
     ]
 }
 
-fn settling_times(shape: &Shape) -> [Duration; 2] {
-    let ticket = shape.ticket.bytes();
+/// The turns of all tickets together.
+fn all_turns(tickets: &[Ticket], rises: Rises) -> Turns {
+    let mut sum = Turns::default();
+    for ticket in tickets {
+        sum += settle_ticket(ticket, rises).1;
+    }
+    sum
+}
+
+fn settling_times(tickets: &[Ticket]) -> [Duration; 2] {
+    let files: Vec<_> = tickets.iter().map(Ticket::bytes).collect();
     let (mut one, mut other) = ([0; SETTLEMENT_BYTES], [0; SETTLEMENT_BYTES]);
-    medians(
-        || proved::settle(&ticket, &mut one).is_ok(),
-        || settle(&ticket, &mut other).is_ok(),
+    mean_times(
+        &files,
+        |file| proved::settle(file, &mut one).is_ok(),
+        |file| settle(file, &mut other).is_ok(),
     )
 }
 
+/// The time of the ticket that the proved settling takes longest for.
+fn slowest(tickets: &[Ticket]) -> Duration {
+    let mut settlement = [0; SETTLEMENT_BYTES];
+    tickets
+        .iter()
+        .map(Ticket::bytes)
+        .map(|file| median_of_three(|| proved::settle(&file, &mut settlement)))
+        .max()
+        .expect("a row has tickets")
+}
+
+/// The times of one call in the mean over these inputs, none of which may be refused.
+fn mean_times<T>(
+    inputs: &[T],
+    proved: impl FnMut(&T) -> bool,
+    plain: impl FnMut(&T) -> bool,
+) -> [Duration; 2] {
+    let (mut proved, mut plain) = (proved, plain);
+    medians(
+        || assert!(inputs.iter().all(&mut proved)),
+        || assert!(inputs.iter().all(&mut plain)),
+    )
+    .map(|time| time / inputs.len() as u32)
+}
+
 fn operations() -> Table {
-    let ticket = random().bytes();
-    let settlement = settle_ticket(&random(), Rises::Jumps).0.bytes();
+    let tickets = random().tickets;
+    let files: Vec<_> = tickets.iter().map(Ticket::bytes).collect();
     let mut table = Table::new(&["16 by 16, random", "proved", "plain Rust", "ratio"]);
     let mut push = |name: &str, times: &dyn Fn() -> [Duration; 2]| {
         eprintln!("{name} ..");
@@ -86,52 +127,60 @@ fn operations() -> Table {
         let times = [time(proved), time(plain), ratio(proved, plain)];
         table.push([name.to_string()].into_iter().chain(times).collect());
     };
-    push("unpack", &|| unpack_times(&ticket));
-    push("pack", &|| pack_times(&ticket));
+    push("unpack", &|| unpack_times(&files));
+    push("pack", &|| pack_times(&tickets));
     push("mark, plain Rust by cheapest spares too", &|| {
-        mark_times(&ticket, &settlement, cheapest::mark)
+        mark_times(&tickets, |ticket, settlement| {
+            cheapest::mark(ticket, settlement).is_ok()
+        })
     });
     push("mark, plain Rust trying every two spares", &|| {
-        mark_times(&ticket, &settlement, mark::mark)
+        mark_times(&tickets, |ticket, settlement| {
+            mark::mark(ticket, settlement).is_ok()
+        })
     });
-    push("sheet", &|| sheet_times(&ticket));
+    push("sheet", &|| sheet_times(&files));
     table
 }
 
-fn unpack_times(ticket: &[u8]) -> [Duration; 2] {
+fn unpack_times(files: &[Vec<u8>]) -> [Duration; 2] {
     let (mut one, mut other) = ([0; TICKET_NUMBERS], [0; TICKET_NUMBERS]);
-    medians(
-        || proved::unpack(ticket, &mut one).is_ok(),
-        || unpack(ticket, &mut other).is_ok(),
+    mean_times(
+        files,
+        |file| proved::unpack(file, &mut one).is_ok(),
+        |file| unpack(file, &mut other).is_ok(),
     )
 }
 
-fn pack_times(ticket: &[u8]) -> [Duration; 2] {
-    let mut list = [0; TICKET_NUMBERS];
-    let count = unpack(ticket, &mut list).expect("the ticket is good");
-    let list = &list[..count];
+fn pack_times(tickets: &[Ticket]) -> [Duration; 2] {
+    let lists: Vec<_> = tickets.iter().map(Ticket::numbers).collect();
     let (mut one, mut other) = ([0; TICKET_BYTES], [0; TICKET_BYTES]);
-    medians(
-        || proved::pack(list, &mut one).is_ok(),
-        || pack(list, &mut other).is_ok(),
+    mean_times(
+        &lists,
+        |list| proved::pack(list, &mut one).is_ok(),
+        |list| pack(list, &mut other).is_ok(),
     )
 }
 
-fn mark_times(
-    ticket: &[u8],
-    settlement: &[u8],
-    plain: impl Fn(&[u8], &[u8]) -> Result<Verdict, Refusal>,
-) -> [Duration; 2] {
-    medians(
-        || proved::mark(ticket, settlement).is_ok(),
-        || plain(ticket, settlement).is_ok(),
+/// Marking the settlements of these tickets.
+fn mark_times(tickets: &[Ticket], plain: impl Fn(&[u8], &[u8]) -> bool) -> [Duration; 2] {
+    let settled = |ticket| settle_ticket(ticket, Rises::Jumps).0.bytes();
+    let files: Vec<_> = tickets
+        .iter()
+        .map(|ticket| (ticket.bytes(), settled(ticket)))
+        .collect();
+    mean_times(
+        &files,
+        |(ticket, settlement)| proved::mark(ticket, settlement).is_ok(),
+        |(ticket, settlement)| plain(ticket, settlement),
     )
 }
 
-fn sheet_times(ticket: &[u8]) -> [Duration; 2] {
+fn sheet_times(files: &[Vec<u8>]) -> [Duration; 2] {
     let (mut one, mut other) = ([0; SHEET_BYTES], [0; SHEET_BYTES]);
-    medians(
-        || proved::sheet(ticket, &mut one).is_ok(),
-        || sheet(ticket, &mut other).is_ok(),
+    mean_times(
+        files,
+        |file| proved::sheet(file, &mut one).is_ok(),
+        |file| sheet(file, &mut other).is_ok(),
     )
 }

@@ -4,8 +4,12 @@
 use std::hint::black_box;
 use std::time::Duration;
 
-/// How many samples of each function are taken, where they are short enough.
-pub const SAMPLES: usize = 51;
+/// The most samples of each function, and the fewest, which are taken of what is slow.
+pub const MOST_SAMPLES: usize = 51;
+pub const FEWEST_SAMPLES: usize = 7;
+
+/// More than the fewest samples are taken only within this time.
+const PATIENCE: Duration = Duration::from_secs(3);
 
 /// A sample is as many calls as take this long.
 pub const SAMPLE: Duration = Duration::from_micros(500);
@@ -14,7 +18,11 @@ pub const SAMPLE: Duration = Duration::from_micros(500);
 pub fn medians<R>(mut first: impl FnMut() -> R, mut second: impl FnMut() -> R) -> [Duration; 2] {
     let calls = [calls_in_sample(&mut first), calls_in_sample(&mut second)];
     let mut samples = [Vec::new(), Vec::new()];
-    for _ in 0..SAMPLES {
+    let start = processor_time();
+    for taken in 0..MOST_SAMPLES {
+        if taken >= FEWEST_SAMPLES && processor_time() - start > PATIENCE {
+            break;
+        }
         samples[0].push(sample(&mut first, calls[0]));
         samples[1].push(sample(&mut second, calls[1]));
     }

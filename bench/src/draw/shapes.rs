@@ -8,61 +8,85 @@ use crate::plain::ticket::{Terms, Ticket};
 const HOURS: u16 = 60;
 const AMOUNT: u16 = 500;
 
-/// A ticket with a name.
+/// Tickets of one kind.
 pub struct Shape {
     pub name: &'static str,
-    pub ticket: Ticket,
+    pub tickets: Vec<Ticket>,
 }
 
-/// Where the random tickets of the benchmark come from.
-const SEED: u64 = 7;
+/// How many tickets are drawn of a kind.
+const DRAWN: u64 = 16;
 
 pub fn shapes() -> Vec<Shape> {
-    let shape = |name, ticket| Shape { name, ticket };
     vec![
-        shape("1 by 1", drawn(1, Style::Wide)),
-        shape("4 by 4", drawn(4, Style::Wide)),
-        shape("16 by 16, random", random()),
-        shape(
-            "16 by 16, random, few amounts, pilots scarce",
-            drawn(16, Style::Scarce),
+        drawn("1 by 1, random", |generator| wide(generator, 1)),
+        drawn("4 by 4, random", |generator| wide(generator, 4)),
+        random(),
+        drawn("16 by 16, few amounts, pilots scarce", |generator| {
+            ticket(generator, 16, 16, Style::Scarce)
+        }),
+        drawn("16 by 16, full", full),
+        one(
+            "16 equal growers, 15 equal pilots, caps 60",
+            war(16, 15, free_deals),
         ),
-        shape("16 by 16, full", full()),
-        shape("16 growers, 15 pilots, caps 60", war(16, 15, free_deals)),
-        shape(
-            "16 growers, 15 pilots, caps 1 to 8",
+        one(
+            "16 equal growers, 15 equal pilots, caps 1 to 8",
             war(16, 15, small_caps),
         ),
-        shape("16 by 16, one hour short", one_hour_short(free_deals)),
-        shape(
+        one(
+            "16 by 16, equal, one hour short",
+            one_hour_short(free_deals),
+        ),
+        one(
             "the same, worthless tariffs",
             one_hour_short(worthless_tariffs),
         ),
-        shape(
+        one(
             "the same, tariffs good for pilots",
             one_hour_short(tariffs_for_pilots),
         ),
-        shape("16 by 16, only free deals", drawn(16, Style::OnlyFree)),
-        shape("16 by 16, only tariff deals", drawn(16, Style::OnlyTariff)),
-        shape(
+        drawn("16 by 16, only free deals", |generator| {
+            ticket(generator, 16, 16, Style::OnlyFree)
+        }),
+        drawn("16 by 16, only tariff deals", |generator| {
+            ticket(generator, 16, 16, Style::OnlyTariff)
+        }),
+        drawn(
             "16 by 16, caps 1 to 5, pilots short of hours",
-            small_and_short(),
+            small_and_short,
         ),
     ]
 }
 
-fn drawn(side: usize, style: Style) -> Ticket {
-    ticket(&mut Generator::new(SEED), side, side, style)
+/// The random tickets of 16 by 16.
+pub fn random() -> Shape {
+    drawn("16 by 16, random", |generator| wide(generator, 16))
 }
 
-/// The random ticket of 16 by 16.
-pub fn random() -> Ticket {
-    drawn(16, Style::Wide)
+fn one(name: &'static str, ticket: Ticket) -> Shape {
+    Shape {
+        name,
+        tickets: vec![ticket],
+    }
+}
+
+/// Tickets of the first seeds.
+fn drawn(name: &'static str, draw: impl Fn(&mut Generator) -> Ticket) -> Shape {
+    Shape {
+        name,
+        tickets: (0..DRAWN)
+            .map(|seed| draw(&mut Generator::new(seed)))
+            .collect(),
+    }
+}
+
+fn wide(generator: &mut Generator, side: usize) -> Ticket {
+    ticket(generator, side, side, Style::Wide)
 }
 
 /// All hours 60, all caps above 0, and amounts that differ.
-fn full() -> Ticket {
-    let mut generator = Generator::new(SEED);
+fn full(generator: &mut Generator) -> Ticket {
     war(16, 16, |_, _| Terms {
         tariff_cap: generator.between(1, HOURS),
         tariff_gain: generator.between(1, AMOUNT),
@@ -73,8 +97,7 @@ fn full() -> Ticket {
 }
 
 /// Small caps, amounts that lie close together, and pilots who each lack a few hours: the hardest kind of ticket found.
-fn small_and_short() -> Ticket {
-    let mut generator = Generator::new(SEED);
+fn small_and_short(generator: &mut Generator) -> Ticket {
     let mut ticket = war(16, 16, |_, _| Terms {
         tariff_cap: generator.between(1, 5),
         tariff_gain: generator.between(300, AMOUNT),

@@ -1,6 +1,8 @@
 //! Settling by the proved program's method: growers propose, pilots keep the best offers, prices rise in eighteenths
 //! of a euro, and one rounding at the end makes them whole euros.
 
+use std::ops::AddAssign;
+
 use super::jumps;
 use super::settlement::{Agreement, Settlement};
 use super::ticket::{Terms, Ticket};
@@ -25,6 +27,14 @@ pub struct Turns {
     pub served: u64,
     pub rises: u64,
     pub jumps: u64,
+}
+
+impl AddAssign for Turns {
+    fn add_assign(&mut self, more: Turns) {
+        self.served += more.served;
+        self.rises += more.rises;
+        self.jumps += more.jumps;
+    }
 }
 
 impl Turns {

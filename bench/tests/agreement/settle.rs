@@ -82,8 +82,10 @@ fn settlements_are_sound() {
 fn the_tickets_of_the_benchmark_are_settled_alike() {
     let mut tally = Tally::default();
     for shape in shapes() {
-        assert_sound(&shape.ticket, &settled_alike(&shape.ticket));
-        tally.compared(shape.name);
+        for ticket in &shape.tickets {
+            assert_sound(ticket, &settled_alike(ticket));
+            tally.compared(shape.name);
+        }
     }
     tally.report("tickets of the benchmark, settled and sound");
 }
