@@ -42,7 +42,13 @@ pub(crate) fn listed(growers: usize, pilots: usize, flown: [[Flown; 16]; 16]) ->
     let pairs = growers * pilots;
     for k in 0..pairs {
         let pair = flown[k / pilots][k % pilots];
-        write_three(&mut list, 3 + 3 * k, pair.tariff_hours, pair.free_hours, pair.pay);
+        write_three(
+            &mut list,
+            3 + 3 * k,
+            pair.tariff_hours,
+            pair.free_hours,
+            pair.pay,
+        );
     }
     list
 }
