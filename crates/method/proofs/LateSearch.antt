@@ -14,7 +14,7 @@ use Rattle.method.specs.declared.LateHour.{LateHour}
 use Rattle.method.specs.declared.LateHour.the-variants.{NoHour, Hour}
 use Rattle.method.specs.declared.Terms.{Terms}
 use Rattle.method.specs.View.{line, ticket}
-use Rattle.method.specs.LateHours.{lateSlot, HasLate, LateIs, LateHere}
+use Rattle.method.specs.LateHours.{HasLate, LateIs, LateHere}
 
 -- The first k growers have no late hours of pilot j.
 pub record NoneLate (t : Ticket) (price : ℕ → ℕ) (held : Held) (j k : ℕ) : Type 0 where

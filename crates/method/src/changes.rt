@@ -6,7 +6,7 @@ ghost use Rattle.market.specs.Method.{slotFor};
 ghost use Rattle.market.specs.Steps.{Added};
 ghost use Rattle.method.specs.View.{heldIn, hoursHeld, agreedAt};
 ghost use Rattle.method.specs.LateHours.{lateSlot};
-ghost use Rattle.method.specs.Changes.{Full, MoreHeld, putCell, agedPair, Aged, Swap};
+ghost use Rattle.method.specs.Changes.{Full, MoreHeld, agedPair, Aged, Swap};
 use crate::Agreed;
 use crate::late::late_count;
 use crate::numbers::least;
@@ -51,15 +51,6 @@ fn fewer(agreed: Agreed, deal: Deal, x: u16) -> Agreed
     }
 }
 
-fn with_cell(held: [[Agreed; 16]; 16], i: usize, j: usize, agreed: Agreed) -> [[Agreed; 16]; 16]
-    requires { ⌜ (i < 16) × (j < 16) ⌝ }
-    ensures { λ r. ⌜ r ≡ putCell held i j agreed ⌝ }
-{
-    let mut next = held;
-    next[i][j] = agreed;
-    next
-}
-
 // x hours come into a deal of grower i and pilot j.
 pub(crate) fn add_hours(
     held: [[Agreed; 16]; 16],
@@ -71,8 +62,9 @@ pub(crate) fn add_hours(
     requires { ⌜ Full held × (i < 16) × (j < 16) × (heldIn held (slotFor deal) i j + x < 65536) ⌝ }
     ensures { λ r. ⌜ Full r × Added (heldIn held) (heldIn r) (slotFor deal) i j x ⌝ }
 {
-    let agreed = more(held[i][j], deal, x);
-    with_cell(held, i, j, agreed)
+    let mut next = held;
+    next[i][j] = more(held[i][j], deal, x);
+    next
 }
 
 // x late hours leave a deal of grower i and pilot j.
@@ -86,8 +78,9 @@ fn take_hours(
     requires { ⌜ Full held × (i < 16) × (j < 16) × (x ≤ heldIn held (lateSlot deal) i j) ⌝ }
     ensures { λ r. ⌜ Full r × Added (heldIn r) (heldIn held) (lateSlot deal) i j x ⌝ }
 {
-    let agreed = fewer(held[i][j], deal, x);
-    with_cell(held, i, j, agreed)
+    let mut next = held;
+    next[i][j] = fewer(held[i][j], deal, x);
+    next
 }
 
 // At most x hours come into a deal of grower i and pilot j, and as many late hours of the pilot leave a deal with grower `giver`.

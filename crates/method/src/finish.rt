@@ -2,7 +2,7 @@
 ghost use mathlib.Core.Path.{_≡_};
 ghost use Prim.Native.Nat.{ℕ, _+_, _<_, _≤_};
 ghost use mathlib.Core.List.{[]};
-ghost use lib.ListN.{getD, length};
+ghost use lib.ListN.{length};
 ghost use Rattle.market.specs.Method.{GoodShift};
 ghost use Rattle.method.specs.View.{line, ticket, agreedIn, agreedAt, noHours};
 ghost use Rattle.method.specs.Changes.{Full};

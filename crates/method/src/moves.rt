@@ -16,6 +16,7 @@ use crate::choice::pair_hours;
 use crate::choice::used_by_grower;
 use crate::late::late_hour;
 use crate::numbers::least;
+use crate::numbers::less;
 use crate::numbers::narrow;
 use crate::numbers::wide;
 use market::Deal;
@@ -60,14 +61,6 @@ pub(crate) fn used_by_pilot(held: [[Agreed; 16]; 16], j: usize, growers: usize) 
     total
 }
 
-// The free hours of pilot j.
-fn free_of_pilot(growers: usize, hours: u16, held: [[Agreed; 16]; 16], j: usize) -> u32
-    requires { ⌜ (growers ≤ 16) × (j < 16) × (usedByPilot (ticket growers 0 [] [] []) (hoursOf (heldIn held)) j ≤ hours) ⌝ }
-    ensures { λ r. ⌜ usedByPilot (ticket growers 0 [] [] []) (hoursOf (heldIn held)) j + r ≡ hours ⌝ }
-{
-    wide(hours) - used_by_pilot(held, j, growers)
-}
-
 // The move for a deal of pilot j that could get `most` hours.
 pub(crate) fn next_move(
     growers: usize,
@@ -79,10 +72,9 @@ pub(crate) fn next_move(
     most: u32,
 ) -> Move
     requires { ⌜ (growers ≤ 16) × (j < 16) × (0 < most) × (most < 65536) ⌝ }
-    requires { ⌜ usedByPilot (ticket growers 0 [] [] []) (hoursOf (heldIn held)) j ≤ hours ⌝ }
     ensures { λ r. ⌜ MoveIs (ticket growers 0 [] [] terms) hours (λ _. price) (heldIn held) j most r ⌝ }
 {
-    let free = free_of_pilot(growers, hours, held, j);
+    let free = less(wide(hours), used_by_pilot(held, j, growers));
     if 0 < free {
         return Move::Add(narrow(least(most, free)));
     }

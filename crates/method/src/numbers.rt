@@ -1,6 +1,6 @@
 // Small facts of numbers.
 ghost use mathlib.Core.Path.{_≡_};
-ghost use Prim.Native.Nat.{_+_, _-_, _<_, _≤_, min};
+ghost use Prim.Native.Nat.{_-_, _<_, _≤_, min};
 
 // Above 18 times every amount: no price rises higher.
 pub(crate) const TOP: u32 = 1179631;

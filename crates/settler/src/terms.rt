@@ -1,6 +1,6 @@
 // The terms of all pairs of a ticket's numbers, in a square of growers by pilots.
 ghost use mathlib.Core.Path.{_≡_};
-ghost use Prim.Native.Nat.{ℕ, _+_, _*_, _<_, _≤_};
+ghost use Prim.Native.Nat.{_+_, _*_, _<_, _≤_};
 ghost use lib.ListN.{length};
 ghost use Rattle.settler.specs.FromList.{termsFrom, TermsFrom, TermsOf};
 use method::Terms;

@@ -1,7 +1,5 @@
 -- `method::settle_squares` meets its contract.
 -- Assumes nothing.
-use mathlib.Core.List.{[]}
-use native.Mathlib.Omega.{arith}
 use Rattle.method.specs.View.{ticket}
 use Rattle.method.specs.State.{Fit}
 use Rattle.method.proofs.Bounds.{fits}

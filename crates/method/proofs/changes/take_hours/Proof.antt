@@ -1,12 +1,13 @@
 -- `method::changes::take_hours` meets its contract.
 -- Assumes nothing.
+use mathlib.Core.Path.{refl}
 use Rattle.method.proofs.HourChanges.{put-fewer}
 use borrow.Author.Needs.{needs}
 use Rattle.method.proofs.changes.take_hours.Statement.{statement}
 use Rattle.method.proofs.changes.take_hours.Tie as tie
 
 returns : tie.Need-returns
-returns c = let s = c .before .before .before in put-fewer _ (s .pre .0) _ _ _ (s .pre .1) (s .pre .2) _ _ _ (c .with-cell .ensures) (c .before .fewer .ensures)
+returns c = let s = c .before .before in put-fewer _ (s .pre .0) _ _ _ (s .pre .1) (s .pre .2) _ _ _ refl (c .fewer .ensures)
 
 pub take-hours-spec : {M : Type 1} → statement M
 take-hours-spec =
@@ -17,5 +18,8 @@ take-hours-spec =
     (λ c. search needs)
     (λ c. search needs)
     (λ c κs. search needs)
-    (λ c κs. search needs)
+    (λ c. search needs)
+    (λ c. search needs)
+    (λ c. search needs)
+    (λ c. search needs)
     returns)

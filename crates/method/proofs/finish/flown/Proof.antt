@@ -1,7 +1,6 @@
 -- `method::finish::flown` meets its contract.
 -- Assumes nothing.
 use mathlib.Core.Path.{refl}
-use native.Mathlib.Omega.{arith}
 use borrow.Author.Needs.{needs}
 use Rattle.method.proofs.finish.flown.Statement.{statement}
 use Rattle.method.proofs.finish.flown.Tie as tie

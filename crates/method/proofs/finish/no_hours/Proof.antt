@@ -1,6 +1,5 @@
 -- `method::finish::no_hours` meets its contract.
 -- Assumes nothing.
-use mathlib.Core.Path.{refl}
 use Rattle.method.proofs.HourChanges.{no-hours}
 use borrow.Author.Needs.{needs}
 use Rattle.method.proofs.finish.no_hours.Statement.{statement}

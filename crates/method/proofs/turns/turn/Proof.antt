@@ -71,17 +71,14 @@ element-copy-out-next-move : tie.Need-element-copy-out-next-move
 element-copy-out-next-move c = omega (arith, pilot-small (c .before .before .before))
 
 next-move-requires : tie.Need-next-move-requires
-next-move-requires c κs = let s = c .before .before .before .before in
+next-move-requires c κs =
+    let s = c .before .before .before .before in
     let a = s .args in
-    let h = has-room (c .before) in
-    let want = s .pre .1 .1 in (
-      (
-        s .pre .0 .growers,
-        pilot-small s,
-        h .some,
-        omega (arith, room-fits _ (a .t7) (a .place .deal) (a .place .grower) (a .place .pilot) _ (s .pre .0) (h .room)),
-      ),
-      s .pre .1 .0 .inv .pilot _ (want .pilot) .withinHours,
+    let h = has-room (c .before) in (
+      s .pre .0 .growers,
+      pilot-small s,
+      h .some,
+      omega (arith, room-fits _ (a .t7) (a .place .deal) (a .place .grower) (a .place .pilot) _ (s .pre .0) (h .room)),
     )
 
 add-hours-requires : tie.Need-add-hours-requires
