@@ -6,5 +6,6 @@ pub mod LineSums
 pub mod FirstPlaces
 pub mod Places
 pub mod Filling
+pub mod Sixteens
 pub mod FilledRows
 pub mod Fronts

@@ -173,9 +173,6 @@ module _ (hours pay : ℕ → ℕ) (price : ℕ) where
   pub tariffs-end : (k l r : ℕ) → k ≡ l → TariffsBear hours pay price k r → TariffsBear hours pay price l r
   tariffs-end k l r e b = rw (sym e) b
 
-  pub tariffs-nothing : (k : ℕ) → TariffsBear hours pay price k 0
-  tariffs-nothing k = record { below = λ x pos le. absurd (omega arith); tariff = λ x pos le. absurd (omega arith) }
-
 -- The chosen ones of the first k pilots bear every rise of at most r.
 pub record FirstPilotsBear (t : Ticket) (chosen : ℕ → Bool) (price : ℕ → ℕ) (held : Held) (k r : ℕ) : Type 0 where
   pub each : (j : ℕ) → j < k → chosen j ≡ true → PilotBears t chosen price held j r

@@ -1,5 +1,4 @@
 pub mod Totals
-pub mod Filling
 pub mod Bounds
 pub mod GreatestDeals
 pub mod Asking

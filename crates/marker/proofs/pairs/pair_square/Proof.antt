@@ -4,7 +4,7 @@ use Prim.Native.Nat.{_-_, _≤_}
 use native.Mathlib.Omega.{arith}
 use Rattle.marker.specs.View.{ticketOf, settlementOf}
 use Rattle.marker.specs.Tables.{PairsOfGrower}
-use Rattle.marker.proofs.Filling.{Made, made-start, made-put, made-all}
+use Rattle.grid.proofs.Sixteens.{Made, made-start, made-put, made-all}
 use borrow.Author.Needs.{needs}
 use Rattle.marker.proofs.pairs.pair_square.Statement.{statement}
 use Rattle.marker.proofs.pairs.pair_square.Tie as tie

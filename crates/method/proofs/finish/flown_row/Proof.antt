@@ -5,7 +5,7 @@ use mathlib.Core.Path.{_≡_}
 use native.Mathlib.Omega.{arith}
 use Rattle.method.specs.View.{line, agreedIn}
 use Rattle.method.specs.Result.{notFlown, flownOf}
-use Rattle.method.proofs.Filling.{Made, made-start, made-put, made-all}
+use Rattle.grid.proofs.Sixteens.{Made, made-start, made-put, made-all}
 use borrow.Author.Needs.{needs}
 use Rattle.method.proofs.finish.flown_row.Statement.{statement}
 use Rattle.method.proofs.finish.flown_row.Tie as tie

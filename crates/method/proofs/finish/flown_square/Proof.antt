@@ -5,7 +5,7 @@ use mathlib.Core.List.{[]}
 use native.Mathlib.Omega.{arith}
 use lib.ListN.{getD}
 use Rattle.method.specs.Result.{FlownOfGrower}
-use Rattle.method.proofs.Filling.{Made, made-start, made-put, made-all}
+use Rattle.grid.proofs.Sixteens.{Made, made-start, made-put, made-all}
 use borrow.Author.Needs.{needs}
 use Rattle.method.proofs.finish.flown_square.Statement.{statement}
 use Rattle.method.proofs.finish.flown_square.Tie as tie

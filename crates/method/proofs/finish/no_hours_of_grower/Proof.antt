@@ -1,7 +1,7 @@
 -- `method::finish::no_hours_of_grower` meets its contract.
 -- Assumes nothing.
 use mathlib.Core.Path.{refl}
-use Rattle.method.proofs.Filling.{same-row}
+use Rattle.grid.proofs.Sixteens.{same-row}
 use Rattle.method.proofs.finish.no_hours_of_grower.Statement.{statement}
 use Rattle.method.proofs.finish.no_hours_of_grower.Tie as tie
 

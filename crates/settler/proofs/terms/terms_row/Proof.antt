@@ -4,7 +4,7 @@ use Prim.Native.Nat.{_+_, _*_, _-_, _≤_}
 use mathlib.Core.Path.{_≡_}
 use native.Mathlib.Omega.{arith}
 use Rattle.method.specs.View.{noTerms}
-use Rattle.method.proofs.Filling.{Made, made-start, made-put, made-all}
+use Rattle.grid.proofs.Sixteens.{Made, made-start, made-put, made-all}
 use Rattle.settler.specs.FromList.{termsFrom}
 use borrow.Author.Needs.{needs}
 use Rattle.settler.proofs.terms.terms_row.Statement.{statement}

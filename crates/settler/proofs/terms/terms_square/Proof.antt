@@ -5,7 +5,7 @@ use mathlib.Core.Path.{_≡_}
 use mathlib.Core.List.{[]}
 use native.Mathlib.Omega.{arith}
 use Rattle.grid.proofs.Places.{row-next, row-within, prod-small}
-use Rattle.method.proofs.Filling.{Made, made-start, made-put, made-all}
+use Rattle.grid.proofs.Sixteens.{Made, made-start, made-put, made-all}
 use Rattle.settler.specs.FromList.{TermsFrom}
 use Rattle.settler.proofs.TicketTables.{row-from}
 use borrow.Author.Needs.{needs}

@@ -1,12 +1,11 @@
--- Rows and squares that a loop fills one after another.
--- Assumes nothing.
+-- Lists of sixteen that a loop fills one after another, whatever stands in them.
 use Prim.Native.Nat.{ℕ, zero, suc, _+_, _<_, _≤_}
 use mathlib.Core.Path.{_≡_, refl, _∙_}
 use mathlib.Core.List.{List}
 use native.Mathlib.Omega.{arith}
 use lib.ListN.{getD, length, set, replicate, length-set}
 use lib.Seq.{getD-set-same, getD-set-other}
 use Rattle.grid.proofs.Cases.{by-index}
 
 -- the first i of sixteen have a property
 pub record Made {A : Type 0} (none : A) (P : ℕ → A → Type 0) (i : ℕ) (q : List A) : Type 0 where
