@@ -1,0 +1,5 @@
+// Texts around tickets and settlements: decimal numbers read from a text, and the line that tells what marking answered.
+mod numbers;
+
+pub use numbers::Listed;
+pub use numbers::read_numbers;
