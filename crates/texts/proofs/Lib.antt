@@ -1,2 +1,5 @@
 pub mod NumberLaws
-pub mod NumberExamples
+pub mod LineWriting
+pub mod VerdictValues
+pub mod MarkLineLaws
+pub mod Examples

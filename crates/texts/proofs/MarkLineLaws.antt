@@ -1,0 +1,92 @@
+-- From the line of an answer to the lent buffer.
+-- Assumes nothing.
+use mathlib.Core.Path.{_≡_, refl, sym, ap, _∙_}
+use mathlib.Core.Bool.{Bool, true, false, cond}
+use mathlib.Core.List.{List, [], _∷_, _++_}
+use Prim.Native.Nat.{ℕ, _≤_, _<_}
+use native.Mathlib.Omega.{arith}
+use borrow.Author.Tests.{le-leb}
+use lib.Dec.{eqb}
+use lib.ListN.{length, take, length-append}
+use lib.Seq.{sets, take-at}
+use Rattle.reader.specs.declared.Reply.{Reply}
+use Rattle.reader.specs.Refusals.{noRoom}
+use Rattle.reader.specs.Walk.{Numbers}
+use Rattle.reader.specs.Answer.{reply, kept}
+use Rattle.reader.proofs.Facts.{reply-with-room, reply-without-room, kept-without-room, written-front}
+use Rattle.marker.specs.declared.Verdict.{Verdict}
+use Rattle.marker.specs.Marked.{marked}
+use Rattle.sheets.specs.Lines.{line}
+use Rattle.sheets.specs.Sheet.{refusedText}
+use Rattle.sheets.specs.Writing.{Wrote}
+use Rattle.sheets.proofs.LineLaws.{line-short}
+use Rattle.texts.specs.declared.verdicts.Values.{Values}
+use Rattle.texts.specs.MarkLine.{lineBytes, valuesOf, Short, field, dealWord, verdictLine, lineOf, markLine}
+use Rattle.texts.proofs.LineWriting.{field-short, deal-short}
+use Rattle.texts.proofs.VerdictValues.{marked-short}
+
+verdict-fits : (v : Values) → length (verdictLine v) ≤ lineBytes
+verdict-fits v =
+    let last = line (v .count ∷ []) in
+    let fifth = dealWord (v .deal) ++ last in
+    let fourth = field (v .pilot) ++ fifth in
+    let third = field (v .grower) ++ fourth in
+    omega (
+      arith,
+      length-append (field (v .number)) third,
+      length-append (field (v .grower)) fourth,
+      length-append (field (v .pilot)) fifth,
+      length-append (dealWord (v .deal)) last,
+      field-short (v .number),
+      field-short (v .grower),
+      field-short (v .pilot),
+      deal-short (v .deal),
+      line-short (v .count ∷ []),
+    )
+
+pick-fits : (test : Bool) (a b : List ℕ) → length a ≤ lineBytes → length b ≤ lineBytes → length (cond test a b) ≤ lineBytes
+pick-fits true a b p q = p
+pick-fits false a b p q = q
+
+-- every line fits
+line-fits : (v : Values) → length (lineOf v) ≤ lineBytes
+line-fits v =
+    pick-fits (eqb (v .refusal) 0) (verdictLine v) (refusedText (v .refusal)) (verdict-fits v) (omega (arith, line-short (v .refusal ∷ [])))
+
+pub values-short : (t s : List ℕ) (verdict : Verdict) (v : Values) → verdict ≡ marked t s → v ≡ valuesOf verdict → Short v
+values-short t s verdict v e f = rw (f, e) (marked-short t s)
+
+-- A line that was written, of the values v.
+module _ (v : Values) {blank page : List ℕ} {end : ℕ} (w : Wrote blank page 0 end (lineOf v)) (long : length blank ≡ lineBytes) where
+  pub end-fits : end ≤ lineBytes
+  end-fits = omega (arith, w .ends, line-fits v)
+
+  front-is : take end page ≡ lineOf v
+  front-is =
+      let e : end ≡ length (lineOf v) = omega (arith, w .ends) in
+      rw (w .stored, written-front blank (lineOf v) (omega (arith, long, line-fits v)), e) (take-at (lineOf v) _ (length (lineOf v)) refl)
+
+  pub front-long : end ≡ length (take end page)
+  front-long = omega (arith, w .ends, ap length front-is)
+
+  module _ (t s : List ℕ) (verdict : Verdict) (is : verdict ≡ marked t s) (has : v ≡ valuesOf verdict) (lent : List ℕ) where
+    text-is : lineOf v ≡ markLine (marked t s)
+    text-is = rw (has, is)
+
+    pub told-short : length lent < end →
+        (Reply.Refused noRoom ≡ reply (length lent) (Numbers (markLine (marked t s)))) × (lent ≡ kept lent (Numbers (markLine (marked t s))))
+    told-short h =
+        rw (← text-is) (
+          sym (reply-without-room (length lent) (lineOf v) (omega (arith, w .ends))),
+          sym (kept-without-room lent (lineOf v) (omega (arith, w .ends))),
+        )
+
+    pub told-copied : (after : List ℕ) (place : ℕ) → end ≤ length lent → Wrote lent after 0 place (take end page) →
+        (Reply.Done end ≡ reply (length lent) (Numbers (markLine (marked t s)))) × (after ≡ kept lent (Numbers (markLine (marked t s))))
+    told-copied after place h c =
+        let fits : length (lineOf v) ≤ length lent = omega (arith, w .ends) in
+        let e : end ≡ length (lineOf v) = omega (arith, w .ends) in
+        rw (← text-is) (
+          ap Reply.Done e ∙ sym (reply-with-room (length lent) (lineOf v) fits),
+          rw (le-leb (length (lineOf v)) (length lent) fits) (c .stored ∙ ap (sets lent 0) front-is),
+        )
