@@ -1,0 +1,167 @@
+// The commands. The first file of a command is read here, and what it writes is named by its last argument.
+use crate::layout;
+use crate::room;
+use crate::usage::Asked;
+use crate::usage::Command;
+use crate::usage::number_of;
+use crate::usage::usage;
+use files::Got;
+use files::counted;
+use files::end_line;
+use files::front;
+use files::say;
+use libc::STDERR_FILENO;
+use libc::STDOUT_FILENO;
+use marker::Verdict;
+use reader::Reply;
+use texts::Listed;
+
+fn refused(why: u8) {
+    counted(STDOUT_FILENO, b"REFUSED ", why as u64);
+    end_line(STDOUT_FILENO);
+    words::refusal(STDERR_FILENO, why);
+}
+
+fn print_sheet(ticket: &[u8]) {
+    let mut text = room::page();
+    let reply = sheets::sheet(ticket, &mut text);
+    if let Reply::Done { count } = reply {
+        say(STDOUT_FILENO, front(&text, count));
+    }
+}
+
+// A ticket settled, to a file.
+fn settle(ticket: &[u8]) {
+    let mut settlement = room::settlement_bytes();
+    let reply = settler::settle(ticket, &mut settlement);
+    match reply {
+        Reply::Refused { why } => refused(why),
+        Reply::Done { count } => files::write(3, front(&settlement, count)),
+    }
+}
+
+// Refusals above 10 are those of the settlement.
+fn is_ticket(verdict: Verdict) -> bool {
+    if let Verdict::Refused { why } = verdict {
+        10 < why
+    } else {
+        true
+    }
+}
+
+// The verdict's line, what it means, and a sound settlement of the ticket to compare.
+fn mark_files(ticket: &[u8], settlement: &[u8]) {
+    let mut line = room::line();
+    let reply = texts::mark_line(ticket, settlement, &mut line);
+    if let Reply::Done { count } = reply {
+        say(STDOUT_FILENO, front(&line, count));
+    }
+    let verdict = marker::mark(ticket, settlement);
+    words::explain(ticket, settlement, verdict);
+    if is_ticket(verdict) {
+        print_sheet(ticket);
+    }
+}
+
+fn mark(ticket: &[u8]) {
+    let mut settlement = room::settlement_bytes();
+    let got = files::read(3, &mut settlement);
+    if let Got::Bytes { count } = got {
+        mark_files(ticket, front(&settlement, count));
+    }
+}
+
+// A ticket's numbers, a party or a pair to a line.
+fn unpack(ticket: &[u8]) {
+    let mut numbers = room::ticket_numbers();
+    let reply = reader::unpack(ticket, &mut numbers);
+    match reply {
+        Reply::Refused { why } => refused(why),
+        Reply::Done { count } => layout::ticket(grid::front(&numbers, count)),
+    }
+}
+
+// The commands whose first file is a ticket.
+fn run_on(command: Command, ticket: &[u8]) {
+    match command {
+        Command::Sheet => print_sheet(ticket),
+        Command::Settle => settle(ticket),
+        Command::Mark => mark(ticket),
+        Command::Unpack => unpack(ticket),
+        Command::Pack => (),
+        Command::Draw => (),
+        Command::Help => (),
+        Command::Unknown => (),
+    }
+}
+
+pub(crate) fn on_ticket(command: Command) {
+    let mut ticket = room::ticket_bytes();
+    let got = files::read(2, &mut ticket);
+    if let Got::Bytes { count } = got {
+        run_on(command, front(&ticket, count));
+    }
+}
+
+// A list of numbers as a ticket, to the file that an argument names.
+fn pack_numbers(numbers: &[u16], argument: usize) {
+    let mut ticket = room::ticket_bytes();
+    let reply = reader::pack(numbers, &mut ticket);
+    match reply {
+        Reply::Refused { why } => refused(why),
+        Reply::Done { count } => files::write(argument, front(&ticket, count)),
+    }
+}
+
+fn pack_text(text: &[u8]) {
+    let mut numbers = room::ticket_numbers();
+    let listed = texts::read_numbers(text, &mut numbers);
+    match listed {
+        Listed::Wrong { line } => {
+            counted(STDERR_FILENO, b"line ", line as u64);
+            say(STDERR_FILENO, b": not a number up to 65535\n");
+        }
+        Listed::NoRoom => say(STDERR_FILENO, b"more than 1315 numbers\n"),
+        Listed::Done { count } => pack_numbers(grid::front(&numbers, count), 3),
+    }
+}
+
+pub(crate) fn pack() {
+    let mut text = io::large_buffer();
+    let got = files::read(2, &mut text);
+    if let Got::Bytes { count } = got {
+        if count < 65536 {
+            pack_text(front(&text, count));
+        } else {
+            say(STDERR_FILENO, b"more than 65535 bytes\n");
+        }
+    }
+}
+
+fn draw_ticket(seed: u16, growers: u16, pilots: u16) {
+    let mut numbers = room::ticket_numbers();
+    let reply = draws::draw(
+        grid::wide(seed),
+        grid::index(growers),
+        grid::index(pilots),
+        &mut numbers,
+    );
+    match reply {
+        Reply::Refused { why } => refused(why),
+        Reply::Done { count } => pack_numbers(grid::front(&numbers, count), 5),
+    }
+}
+
+// A new ticket from a seed.
+pub(crate) fn draw() {
+    let Asked::Number { value: seed } = number_of(2) else {
+        return;
+    };
+    let Asked::Number { value: growers } = number_of(3) else {
+        return;
+    };
+    let Asked::Number { value: pilots } = number_of(4) else {
+        return;
+    };
+    draw_ticket(seed, growers, pilots);
+}

@@ -1,0 +1,74 @@
+// A ticket's numbers with words, a party or a pair to a line.
+use files::counted;
+use files::end_line;
+use libc::STDOUT_FILENO;
+use marker::Quantity;
+
+fn party(word: &[u8], k: usize, hours: u16) {
+    counted(STDOUT_FILENO, word, k as u64);
+    counted(STDOUT_FILENO, b" hours ", hours as u64);
+    end_line(STDOUT_FILENO);
+}
+
+// The first numbers of a row of hours, at most 16.
+fn parties(word: &[u8], count: usize, hours: [u16; 16]) {
+    for k in 0..16usize {
+        if k < count {
+            party(word, k, hours[k]);
+        }
+    }
+}
+
+fn pair(i: usize, j: usize, tariff_cap: u64, gain: u64, pay: u64, free_cap: u64, joint: u64) {
+    counted(STDOUT_FILENO, b"pair ", i as u64);
+    counted(STDOUT_FILENO, b" ", j as u64);
+    counted(STDOUT_FILENO, b" tariff cap ", tariff_cap);
+    counted(STDOUT_FILENO, b" gains ", gain);
+    counted(STDOUT_FILENO, b" ", pay);
+    counted(STDOUT_FILENO, b" free cap ", free_cap);
+    counted(STDOUT_FILENO, b" gain ", joint);
+    end_line(STDOUT_FILENO);
+}
+
+fn pairs(
+    growers: usize,
+    pilots: usize,
+    tariff_cap: [[u16; 16]; 16],
+    gain: [[u16; 16]; 16],
+    pay: [[u16; 16]; 16],
+    free_cap: [[u16; 16]; 16],
+    joint: [[u16; 16]; 16],
+) {
+    for i in 0..growers {
+        for j in 0..pilots {
+            pair(
+                i,
+                j,
+                grid::cell(tariff_cap, i, j),
+                grid::cell(gain, i, j),
+                grid::cell(pay, i, j),
+                grid::cell(free_cap, i, j),
+                grid::cell(joint, i, j),
+            );
+        }
+    }
+}
+
+pub(crate) fn ticket(numbers: &[u16]) {
+    let growers = grid::index(grid::entry(numbers, 1));
+    let pilots = grid::index(grid::entry(numbers, 2));
+    counted(STDOUT_FILENO, b"growers ", growers as u64);
+    counted(STDOUT_FILENO, b" pilots ", pilots as u64);
+    end_line(STDOUT_FILENO);
+    parties(b"grower ", growers, marker::grower_hours(numbers));
+    parties(b"pilot ", pilots, marker::pilot_hours(numbers));
+    pairs(
+        growers,
+        pilots,
+        marker::square(numbers, Quantity::TariffCap),
+        marker::square(numbers, Quantity::TariffGain),
+        marker::square(numbers, Quantity::TariffPay),
+        marker::square(numbers, Quantity::FreeCap),
+        marker::square(numbers, Quantity::JointGain),
+    );
+}

@@ -1,0 +1,23 @@
+// Room for the files and lists of the exchange.
+
+// One byte more than the longest ticket has, so that a longer file is refused as one that has bytes left.
+pub(crate) fn ticket_bytes() -> [u8; 2084] {
+    [0; 2084]
+}
+
+// One byte more than the longest settlement of 16 by 16 pairs has: three, and six for each pair.
+pub(crate) fn settlement_bytes() -> [u8; 1540] {
+    [0; 1540]
+}
+
+pub(crate) fn ticket_numbers() -> [u16; 1315] {
+    [0; 1315]
+}
+
+pub(crate) fn page() -> [u8; 8216] {
+    [0; sheets::PAGE]
+}
+
+pub(crate) fn line() -> [u8; 28] {
+    [0; texts::LINE]
+}

@@ -1,0 +1,102 @@
+// The commands, and how they are called.
+use files::say;
+use libc::STDERR_FILENO;
+use libc::STDOUT_FILENO;
+use texts::Listed;
+
+pub(crate) enum Command {
+    Sheet,
+    Settle,
+    Mark,
+    Unpack,
+    Pack,
+    Draw,
+    Help,
+    Unknown,
+}
+
+pub(crate) fn command_of(word: &[u8]) -> Command {
+    if check::same(word, b"sheet") {
+        return Command::Sheet;
+    }
+    if check::same(word, b"settle") {
+        return Command::Settle;
+    }
+    if check::same(word, b"mark") {
+        return Command::Mark;
+    }
+    if check::same(word, b"unpack") {
+        return Command::Unpack;
+    }
+    if check::same(word, b"pack") {
+        return Command::Pack;
+    }
+    if check::same(word, b"draw") {
+        return Command::Draw;
+    }
+    if check::same(word, b"help") {
+        return Command::Help;
+    }
+    Command::Unknown
+}
+
+// How many arguments a command takes, with the program's name and its own.
+pub(crate) fn words_of(command: Command) -> usize {
+    match command {
+        Command::Sheet => 3,
+        Command::Settle => 4,
+        Command::Mark => 4,
+        Command::Unpack => 3,
+        Command::Pack => 4,
+        Command::Draw => 6,
+        Command::Help => 2,
+        Command::Unknown => 0,
+    }
+}
+
+pub(crate) fn usage() {
+    say(
+        STDERR_FILENO,
+        b"usage: exchange sheet|settle|mark|unpack|pack|draw|help ARGUMENTS\n",
+    );
+}
+
+pub(crate) fn help() {
+    say(
+        STDOUT_FILENO,
+        b"exchange sheet TICKET\nexchange settle TICKET SETTLEMENT\n",
+    );
+    say(
+        STDOUT_FILENO,
+        b"exchange mark TICKET SETTLEMENT\nexchange unpack TICKET\n",
+    );
+    say(
+        STDOUT_FILENO,
+        b"exchange pack LIST TICKET\nexchange draw SEED N M TICKET\n",
+    );
+}
+
+// A number that an argument gives, if it is one.
+pub(crate) enum Asked {
+    NoNumber,
+    Number { value: u16 },
+}
+
+fn number_in(word: &[u8]) -> Asked {
+    let mut list = [0u16; 1];
+    let listed = texts::read_numbers(word, &mut list);
+    if let Listed::Done { count } = listed {
+        if count == 1 {
+            return Asked::Number { value: list[0] };
+        }
+    }
+    usage();
+    Asked::NoNumber
+}
+
+// An argument's number. One of more than eight digits is left out by `os::arg`, and is then no number.
+pub(crate) fn number_of(argument: usize) -> Asked {
+    let mut word = [0u8; 8];
+    let length = os::arg(argument, &mut word);
+    number_in(&word[..length])
+}
