@@ -2,18 +2,17 @@
 use crate::layout;
 use crate::room;
 use crate::usage::Asked;
-use crate::usage::Command;
+use crate::usage::Operation;
 use crate::usage::number_of;
-use crate::usage::usage;
 use files::Got;
 use files::counted;
 use files::end_line;
-use files::front;
 use files::say;
 use libc::STDERR_FILENO;
 use libc::STDOUT_FILENO;
 use marker::Verdict;
 use reader::Reply;
+use report::front_bytes;
 use texts::Listed;
 
 fn refused(why: u8) {
@@ -26,7 +25,7 @@ fn print_sheet(ticket: &[u8]) {
     let mut text = room::page();
     let reply = sheets::sheet(ticket, &mut text);
     if let Reply::Done { count } = reply {
-        say(STDOUT_FILENO, front(&text, count));
+        say(STDOUT_FILENO, front_bytes(&text, count));
     }
 }
 
@@ -36,7 +35,7 @@ fn settle(ticket: &[u8]) {
     let reply = settler::settle(ticket, &mut settlement);
     match reply {
         Reply::Refused { why } => refused(why),
-        Reply::Done { count } => files::write(3, front(&settlement, count)),
+        Reply::Done { count } => files::write(3, front_bytes(&settlement, count)),
     }
 }
 
@@ -54,7 +53,7 @@ fn mark_files(ticket: &[u8], settlement: &[u8]) {
     let mut line = room::line();
     let reply = texts::mark_line(ticket, settlement, &mut line);
     if let Reply::Done { count } = reply {
-        say(STDOUT_FILENO, front(&line, count));
+        say(STDOUT_FILENO, front_bytes(&line, count));
     }
     let verdict = marker::mark(ticket, settlement);
     words::explain(ticket, settlement, verdict);
@@ -67,7 +66,7 @@ fn mark(ticket: &[u8]) {
     let mut settlement = room::settlement_bytes();
     let got = files::read(3, &mut settlement);
     if let Got::Bytes { count } = got {
-        mark_files(ticket, front(&settlement, count));
+        mark_files(ticket, front_bytes(&settlement, count));
     }
 }
 
@@ -81,25 +80,21 @@ fn unpack(ticket: &[u8]) {
     }
 }
 
-// The commands whose first file is a ticket.
-fn run_on(command: Command, ticket: &[u8]) {
-    match command {
-        Command::Sheet => print_sheet(ticket),
-        Command::Settle => settle(ticket),
-        Command::Mark => mark(ticket),
-        Command::Unpack => unpack(ticket),
-        Command::Pack => (),
-        Command::Draw => (),
-        Command::Help => (),
-        Command::Unknown => (),
+fn run(operation: Operation, ticket: &[u8]) {
+    match operation {
+        Operation::Sheet => print_sheet(ticket),
+        Operation::Settle => settle(ticket),
+        Operation::Mark => mark(ticket),
+        Operation::Unpack => unpack(ticket),
     }
 }
 
-pub(crate) fn on_ticket(command: Command) {
+// An operation on the ticket that is its first file.
+pub(crate) fn on_ticket(operation: Operation) {
     let mut ticket = room::ticket_bytes();
     let got = files::read(2, &mut ticket);
     if let Got::Bytes { count } = got {
-        run_on(command, front(&ticket, count));
+        run(operation, front_bytes(&ticket, count));
     }
 }
 
@@ -109,7 +104,7 @@ fn pack_numbers(numbers: &[u16], argument: usize) {
     let reply = reader::pack(numbers, &mut ticket);
     match reply {
         Reply::Refused { why } => refused(why),
-        Reply::Done { count } => files::write(argument, front(&ticket, count)),
+        Reply::Done { count } => files::write(argument, front_bytes(&ticket, count)),
     }
 }
 
@@ -131,7 +126,7 @@ pub(crate) fn pack() {
     let got = files::read(2, &mut text);
     if let Got::Bytes { count } = got {
         if count < 65536 {
-            pack_text(front(&text, count));
+            pack_text(front_bytes(&text, count));
         } else {
             say(STDERR_FILENO, b"more than 65535 bytes\n");
         }

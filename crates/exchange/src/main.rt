@@ -16,10 +16,7 @@ use usage::words_of;
 
 fn run(command: Command) {
     match command {
-        Command::Sheet => on_ticket(command),
-        Command::Settle => on_ticket(command),
-        Command::Mark => on_ticket(command),
-        Command::Unpack => on_ticket(command),
+        Command::OnTicket { operation } => on_ticket(operation),
         Command::Pack => pack(),
         Command::Draw => draw(),
         Command::Help => help(),

@@ -4,29 +4,38 @@ use libc::STDERR_FILENO;
 use libc::STDOUT_FILENO;
 use texts::Listed;
 
-pub(crate) enum Command {
+// What is done on a ticket.
+pub(crate) enum Operation {
     Sheet,
     Settle,
     Mark,
     Unpack,
+}
+
+pub(crate) enum Command {
+    OnTicket { operation: Operation },
     Pack,
     Draw,
     Help,
     Unknown,
 }
 
+fn on_ticket(operation: Operation) -> Command {
+    Command::OnTicket { operation }
+}
+
 pub(crate) fn command_of(word: &[u8]) -> Command {
     if check::same(word, b"sheet") {
-        return Command::Sheet;
+        return on_ticket(Operation::Sheet);
     }
     if check::same(word, b"settle") {
-        return Command::Settle;
+        return on_ticket(Operation::Settle);
     }
     if check::same(word, b"mark") {
-        return Command::Mark;
+        return on_ticket(Operation::Mark);
     }
     if check::same(word, b"unpack") {
-        return Command::Unpack;
+        return on_ticket(Operation::Unpack);
     }
     if check::same(word, b"pack") {
         return Command::Pack;
@@ -40,13 +49,19 @@ pub(crate) fn command_of(word: &[u8]) -> Command {
     Command::Unknown
 }
 
+fn words_on_ticket(operation: Operation) -> usize {
+    match operation {
+        Operation::Sheet => 3,
+        Operation::Settle => 4,
+        Operation::Mark => 4,
+        Operation::Unpack => 3,
+    }
+}
+
 // How many arguments a command takes, with the program's name and its own.
 pub(crate) fn words_of(command: Command) -> usize {
     match command {
-        Command::Sheet => 3,
-        Command::Settle => 4,
-        Command::Mark => 4,
-        Command::Unpack => 3,
+        Command::OnTicket { operation } => words_on_ticket(operation),
         Command::Pack => 4,
         Command::Draw => 6,
         Command::Help => 2,

@@ -8,6 +8,5 @@ pub use reading::Got;
 pub use reading::read;
 pub use streams::counted;
 pub use streams::end_line;
-pub use streams::front;
 pub use streams::say;
 pub use writing::write;

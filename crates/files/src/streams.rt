@@ -1,9 +1,10 @@
 // Words and numbers, to standard output or standard error.
-ghost use mathlib.Core.Path.{_≡_};
-ghost use lib.ListN.{take};
 
+// A write that fails is told on standard error, since a text that was cut short looks whole.
 pub fn say(fd: i32, words: &[u8]) {
-    io::write_all(fd, words);
+    if !io::write_all(fd, words) {
+        os::fail(b"write");
+    }
 }
 
 // A word and the number after it.
@@ -14,15 +15,4 @@ pub fn counted(fd: i32, word: &[u8], n: u64) {
 
 pub fn end_line(fd: i32) {
     say(fd, b"\n");
-}
-
-// The first `count` bytes, all if there are fewer.
-pub fn front<'a>(bytes: &'a [u8], count: usize) -> &'a [u8]
-    ensures { λ r. ⌜ now r ≡ take count (now (bytes .entry)) ⌝ }
-{
-    if count < bytes.len() {
-        &bytes[..count]
-    } else {
-        bytes
-    }
 }
