@@ -1,7 +1,7 @@
 -- Bytes written into a line, and the digits of a number.
 -- Assumes nothing.
 use mathlib.Core.Path.{_≡_, refl, ap, _∙_}
-use mathlib.Core.List.{List, [], _∷_}
+use mathlib.Core.List.{List, [], _∷_, _++_}
 use Prim.Native.Nat.{ℕ, zero, suc, _+_, _/_, _%_, _^_, _-_, _≤_, _<_}
 use native.Mathlib.Nat.{pow-suc, one-le-pow}
 use native.Mathlib.Omega.{arith}
@@ -14,7 +14,8 @@ use Rattle.sheets.specs.Writing.{Wrote}
 use Rattle.sheets.proofs.Spelling.{units-alone, tens-first, hundreds-first, decimal-is, decimal-short}
 use Rattle.market.specs.declared.Deal.{Deal}
 use Rattle.market.specs.declared.Deal.the-variants.{Tariff, Free}
-use Rattle.texts.specs.MarkLine.{field, dealWord}
+use Rattle.texts.specs.declared.verdicts.Values.{Values}
+use Rattle.texts.specs.MarkLine.{field, dealWord, headOf}
 
 pub wrote-length : {l l₁ : List ℕ} {from end : ℕ} {x : List ℕ} → Wrote l l₁ from end x → length l₁ ≡ length l
 wrote-length {l} {l₁} {from} {end} {x} w = ap length (w .stored) ∙ length-sets l from x
@@ -56,3 +57,14 @@ field-short n = omega (arith, length-append (decimal n) (32 ∷ []), decimal-sho
 pub deal-short : (d : Deal) → length (dealWord d) ≤ 7
 deal-short Tariff = omega arith
 deal-short Free = omega arith
+
+pub head-short : (v : Values) → length (headOf v) ≤ 17
+head-short v =
+    omega (
+      arith,
+      length-append (field (v .number)) (field (v .grower) ++ field (v .pilot)),
+      length-append (field (v .grower)) (field (v .pilot)),
+      field-short (v .number),
+      field-short (v .grower),
+      field-short (v .pilot),
+    )

@@ -21,25 +21,18 @@ use Rattle.sheets.specs.Sheet.{refusedText}
 use Rattle.sheets.specs.Writing.{Wrote}
 use Rattle.sheets.proofs.LineLaws.{line-short}
 use Rattle.texts.specs.declared.verdicts.Values.{Values}
-use Rattle.texts.specs.MarkLine.{lineBytes, valuesOf, Short, field, dealWord, verdictLine, lineOf, markLine}
-use Rattle.texts.proofs.LineWriting.{field-short, deal-short}
+use Rattle.texts.specs.MarkLine.{lineBytes, valuesOf, Short, dealWord, headOf, verdictLine, lineOf, markLine}
+use Rattle.texts.proofs.LineWriting.{head-short, deal-short}
 use Rattle.texts.proofs.VerdictValues.{marked-short}
 
 verdict-fits : (v : Values) → length (verdictLine v) ≤ lineBytes
 verdict-fits v =
     let last = line (v .count ∷ []) in
-    let fifth = dealWord (v .deal) ++ last in
-    let fourth = field (v .pilot) ++ fifth in
-    let third = field (v .grower) ++ fourth in
     omega (
       arith,
-      length-append (field (v .number)) third,
-      length-append (field (v .grower)) fourth,
-      length-append (field (v .pilot)) fifth,
+      length-append (headOf v) (dealWord (v .deal) ++ last),
       length-append (dealWord (v .deal)) last,
-      field-short (v .number),
-      field-short (v .grower),
-      field-short (v .pilot),
+      head-short v,
       deal-short (v .deal),
       line-short (v .count ∷ []),
     )

@@ -42,9 +42,12 @@ dealWord Free = 102 ∷ 114 ∷ 101 ∷ 101 ∷ 32 ∷ []
 abbrev pub field : ℕ → List ℕ
 field n = decimal n ++ (32 ∷ [])
 
--- the line of a verdict; its count ends the line
+-- the line of a verdict: its number, grower and pilot, then its deal and its count, which ends the line
+abbrev pub headOf : Values → List ℕ
+headOf v = markWord ++ (field (v .number) ++ (field (v .grower) ++ field (v .pilot)))
+
 abbrev pub verdictLine : Values → List ℕ
-verdictLine v = markWord ++ (field (v .number) ++ (field (v .grower) ++ (field (v .pilot) ++ (dealWord (v .deal) ++ line (v .count ∷ [])))))
+verdictLine v = headOf v ++ (dealWord (v .deal) ++ line (v .count ∷ []))
 
 -- no refusal has the number 0
 abbrev pub lineOf : Values → List ℕ

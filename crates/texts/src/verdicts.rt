@@ -8,7 +8,7 @@ ghost use Rattle.marker.specs.Marked.{marked};
 ghost use Rattle.sheets.specs.Decimal.{decimal};
 ghost use Rattle.sheets.specs.Writing.{Wrote};
 ghost use Rattle.sheets.specs.Sheet.{refusedText};
-ghost use Rattle.texts.specs.MarkLine.{lineBytes, faultValues, valuesOf, Short, field, dealWord, verdictLine, lineOf, markLine};
+ghost use Rattle.texts.specs.MarkLine.{lineBytes, faultValues, valuesOf, Short, field, dealWord, headOf, verdictLine, lineOf, markLine};
 use marker::Verdict;
 use market::Deal;
 use reader::NO_ROOM;
@@ -120,19 +120,27 @@ fn deal_word(line: &mut [u8], at: usize, deal: Deal) -> usize
     }
 }
 
+// The start of a verdict's line: its number, grower and pilot.
+fn head(line: &mut [u8], values: Values) -> usize
+    requires { ⌜ Short values × (lineBytes ≤ length (now line)) ⌝ }
+    ensures { λ r. ⌜ Wrote (now (line .entry)) (now (line .exit)) 0 r (headOf values) ⌝ }
+{
+    let first = word(line, 0, b"MARK ");
+    let second = spaced(line, first, values.number);
+    let third = spaced(line, second, values.grower);
+    spaced(line, third, values.pilot)
+}
+
 // The line of a verdict, and of a refusal.
 fn verdict_line(line: &mut [u8], values: Values) -> usize
     requires { ⌜ Short values × (lineBytes ≤ length (now line)) ⌝ }
     ensures { λ r. ⌜ Wrote (now (line .entry)) (now (line .exit)) 0 r (verdictLine values) ⌝ }
 {
-    let first = word(line, 0, b"MARK ");
-    let second = spaced(line, first, values.number);
-    let third = spaced(line, second, values.grower);
-    let fourth = spaced(line, third, values.pilot);
+    let next = head(line, values);
     let deal = values.deal;
-    let fifth = deal_word(line, fourth, deal);
-    let last = number(line, fifth, values.count);
-    word(line, last, b"\n")
+    let last = deal_word(line, next, deal);
+    let end = number(line, last, values.count);
+    word(line, end, b"\n")
 }
 
 fn refusal_line(line: &mut [u8], why: u8) -> usize

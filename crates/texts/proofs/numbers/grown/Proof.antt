@@ -9,10 +9,14 @@ use Rattle.texts.proofs.numbers.grown.Statement.{statement}
 use Rattle.texts.proofs.numbers.grown.Tie as tie
 
 returns : tie.Need-returns
-returns c = let e : c .before .before .index .result ≡ c .before .before .before .args .value = omega arith in let f : c .before .index2 .result ≡ c .before .before .before .args .digit = omega arith in rw (e, f, lt-ltb (10 * c .before .before .before .args .value + c .before .before .before .args .digit) 65536 (omega arith))
+returns c =
+    let e : c .before .before .index .result ≡ c .before .before .before .args .value = omega arith in
+    let f : c .before .index2 .result ≡ c .before .before .before .args .digit = omega arith in
+    rw (e, f, lt-ltb (10 * c .before .before .before .args .value + c .before .before .before .args .digit) 65536 (omega arith))
 
 returns-2 : tie.Need-returns-2
-returns-2 c = rw (le-ltb (10 * c .before .before .before .args .value + c .before .before .before .args .digit) 65536 (omega arith))
+returns-2 c =
+    rw (le-ltb (10 * c .before .before .before .args .value + c .before .before .before .args .digit) 65536 (omega arith))
 
 pub grown-spec : {M : Type 1} → statement M
 grown-spec =

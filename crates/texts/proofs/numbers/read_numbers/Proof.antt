@@ -6,16 +6,39 @@ use Rattle.texts.proofs.numbers.read_numbers.Statement.{statement}
 use Rattle.texts.proofs.numbers.read_numbers.Tie as tie
 
 returns : tie.Need-returns
-returns c = answer-short (c .before .before .before .before .before .before .before .before .before .args .list .now) _ (c .before .before .before .before .before .walk .ensures) _ (c .before .before .seen2 .given .1) (c .if1 .taken)
+returns c =
+    answer-short
+    (c .before .before .before .before .before .before .before .before .before .args .list .now)
+    _
+    (c .before .before .before .before .before .walk .ensures)
+    _ (c .before .before .seen2 .given .1) (c .if1 .taken)
 
 returns-2 : tie.Need-returns-2
-returns-2 c = answer-wrong (c .before .before .before .before .before .before .before .before .args .list .now) _ (c .before .before .before .before .walk .ensures) _ (c .before .seen .given .1)
+returns-2 c =
+    answer-wrong
+    (c .before .before .before .before .before .before .before .before .args .list .now)
+    _
+    (c .before .before .before .before .walk .ensures)
+    _ (c .before .seen .given .1)
 
 returns-3 : tie.Need-returns-3
-returns-3 c = answer-none (c .before .before .before .before .before .before .before .args .list .now) _ (c .before .before .before .walk .ensures) (c .enum-told .given .1)
+returns-3 c =
+    answer-none
+    (c .before .before .before .before .before .before .before .args .list .now)
+    _
+    (c .before .before .before .walk .ensures)
+    (c .enum-told .given .1)
 
 returns-4 : tie.Need-returns-4
-returns-4 c = answer-done (c .before .before .before .before .before .before .before .before .before .before .before .before .before .args .list .now) _ (c .before .before .before .before .before .before .before .before .before .walk .ensures) _ (c .before .before .before .before .before .before .seen2 .given .1) (c .before .before .before .before .if1 .left) (c .before .before .walk2 .ensures)
+returns-4 c =
+    answer-done
+    (c .before .before .before .before .before .before .before .before .before .before .before .before .before .args .list .now)
+    _
+    (c .before .before .before .before .before .before .before .before .before .walk .ensures)
+    _
+    (c .before .before .before .before .before .before .seen2 .given .1)
+    (c .before .before .before .before .if1 .left)
+    (c .before .before .walk2 .ensures)
 
 pub read-numbers-spec : {M : Type 1} → statement M
 read-numbers-spec =

@@ -13,7 +13,9 @@ returns : tie.Need-returns
 returns c = rw (c .before .before .given .given .1) (refl, refl)
 
 add-result-2 : tie.Need-add-result-2
-add-result-2 c = let e : length (numbersIn (c .before .before .before .before .args .given)) ≡ 1 = rw (c .before .before .given .given .1) in omega arith
+add-result-2 c =
+    let e : length (numbersIn (c .before .before .before .before .args .given)) ≡ 1 = rw (c .before .before .given .given .1) in
+    omega arith
 
 returns-2 : tie.Need-returns-2
 returns-2 c = rw (c .enum-told .given .1) (omega arith, refl)

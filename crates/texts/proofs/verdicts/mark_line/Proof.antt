@@ -7,22 +7,39 @@ use Rattle.texts.proofs.verdicts.mark_line.Statement.{statement}
 use Rattle.texts.proofs.verdicts.mark_line.Tie as tie
 
 tell-requires : tie.Need-tell-requires
-tell-requires c κs = (values-short (c .before .before .before .before .before .before .before .args .ticket .now) (c .before .before .before .before .before .before .before .args .settlement .now) _ _ (c .before .mark .ensures) (c .values-of .ensures), omega (arith, c .before .before .before .blank .ensures))
+tell-requires c κs =
+    let s = c .before .before .before .before .before .before .before .args in
+    let short = values-short (s .ticket .now) (s .settlement .now) _ _ (c .before .mark .ensures) (c .values-of .ensures) in
+    (short, omega (arith, c .before .before .before .blank .ensures))
 
 returns : tie.Need-returns
-returns c = told-short (c .before .before .before .values-of .result) (c .before .before .tell .ensures) (c .before .before .before .before .before .before .blank .ensures) (c .before .before .before .before .before .before .before .before .before .before .args .ticket .now) (c .before .before .before .before .before .before .before .before .before .before .args .settlement .now) _ (c .before .before .before .before .mark .ensures) (c .before .before .before .values-of .ensures) (c .before .before .before .before .before .before .before .before .before .before .args .text .now) (c .if1 .taken)
+returns c =
+    let s = c .before .before .before .before .before .before .before .before .before .before .args in
+    let v = c .before .before .before .values-of in
+    told-short (v .result) (c .before .before .tell .ensures) (c .before .before .before .before .before .before .blank .ensures) (s .ticket .now) (s .settlement .now) _ (c .before .before .before .before .mark .ensures)
+    (v .ensures) (s .text .now) (c .if1 .taken)
 
 array-share-prefix-line : tie.Need-array-share-prefix-line
-array-share-prefix-line c = omega (arith, end-fits (c .before .before .before .before .values-of .result) (c .before .before .before .tell .ensures) (c .before .before .before .before .before .before .before .blank .ensures))
+array-share-prefix-line c =
+    omega (arith, end-fits (c .before .before .before .before .values-of .result) (c .before .before .before .tell .ensures) (c .before .before .before .before .before .before .before .blank .ensures))
 
 slice-aggregate-word : tie.Need-slice-aggregate-word
-slice-aggregate-word c = front-long (c .before .before .before .before .before .values-of .result) (c .before .before .before .before .tell .ensures) (c .before .before .before .before .before .before .before .before .blank .ensures)
+slice-aggregate-word c =
+    front-long
+    (c .before .before .before .before .before .values-of .result)
+    (c .before .before .before .before .tell .ensures)
+    (c .before .before .before .before .before .before .before .before .blank .ensures)
 
 word-requires : tie.Need-word-requires
-word-requires c κs = omega (arith, front-long (c .before .before .before .before .before .values-of .result) (c .before .before .before .before .tell .ensures) (c .before .before .before .before .before .before .before .before .blank .ensures), c .before .before .if1 .left)
+word-requires c κs =
+    let long = front-long (c .before .before .before .before .before .values-of .result) (c .before .before .before .before .tell .ensures) (c .before .before .before .before .before .before .before .before .blank .ensures) in omega (arith, c .before .before .if1 .left)
 
 returns-2 : tie.Need-returns-2
-returns-2 c = told-copied (c .before .before .before .before .before .before .before .before .values-of .result) (c .before .before .before .before .before .before .before .tell .ensures) (c .before .before .before .before .before .before .before .before .before .before .before .blank .ensures) (c .before .before .before .before .before .before .before .before .before .before .before .before .before .before .before .args .ticket .now) (c .before .before .before .before .before .before .before .before .before .before .before .before .before .before .before .args .settlement .now) _ (c .before .before .before .before .before .before .before .before .before .mark .ensures) (c .before .before .before .before .before .before .before .before .values-of .ensures) (c .before .before .before .before .before .before .before .before .before .before .before .before .before .before .before .args .text .now) _ _ (c .before .before .before .before .before .if1 .left) (c .before .before .word .ensures)
+returns-2 c =
+    let s = c .before .before .before .before .before .before .before .before .before .before .before .before .before .before .before .args in
+    let v = c .before .before .before .before .before .before .before .before .values-of in
+    told-copied (v .result) (c .before .before .before .before .before .before .before .tell .ensures) (c .before .before .before .before .before .before .before .before .before .before .before .blank .ensures) (s .ticket .now) (s .settlement .now) _ (c .before .before .before .before .before .before .before .before .before .mark .ensures)
+    (v .ensures) (s .text .now) _ _ (c .before .before .before .before .before .if1 .left) (c .before .before .word .ensures)
 
 pub mark-line-spec : {M : Type 1} → statement M
 mark-line-spec =

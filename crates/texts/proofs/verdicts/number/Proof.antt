@@ -13,7 +13,10 @@ use Rattle.texts.proofs.verdicts.number.Tie as tie
 
 -- what is written
 digits-are : (c : tie.After-digits2) → take (c .before .before .decimal .result) (c .before .before .decimal .last .1 .0) ≡ decimal (c .before .before .before .before .before .args .n)
-digits-are c = let d = c .before .before .decimal .ensures in d .1 .1 ∙ fewest-decimal (c .before .before .before .before .before .args .n) (c .before .before .decimal .result) (c .before .before .before .before .before .pre .0) (d .1 .0)
+digits-are c =
+    let s = c .before .before .before .before .before in
+    let d = c .before .before .decimal in
+    d .ensures .1 .1 ∙ fewest-decimal (s .args .n) (d .result) (s .pre .0) (d .ensures .1 .0)
 
 word-requires : tie.Need-word-requires
 word-requires c κs = omega (arith, ap length (digits-are c), decimal-short (c .before .before .before .before .before .args .n))

@@ -9,10 +9,16 @@ use Rattle.texts.proofs.verdicts.refusal_line.Statement.{statement}
 use Rattle.texts.proofs.verdicts.refusal_line.Tie as tie
 
 word-requires-2 : tie.Need-word-requires-2
-word-requires-2 c κs = let first = room-after 8 4 (c .before .before .before .before .before .before .before .before .word .ensures) (omega arith) (omega (arith, c .before .before .before .before .before .before .before .before .before .before .before .before .pre)) in room-after 3 1 (c .before .before .before .before .number .ensures) (decimal-short _) (omega arith)
+word-requires-2 c κs =
+    let s = c .before .before .before .before .before .before .before .before .before .before .before .before in
+    let first = room-after 8 4 (c .before .before .before .before .before .before .before .before .word .ensures) (omega arith) (omega (arith, s .pre)) in
+    room-after 3 1 (c .before .before .before .before .number .ensures) (decimal-short _) (omega arith)
 
 returns : tie.Need-returns
-returns c = wrote-then (c .before .before .before .before .before .before .before .before .before .before .before .word .ensures) (wrote-then (c .before .before .before .before .before .before .before .number .ensures) (c .before .before .word2 .ensures))
+returns c =
+    wrote-then
+    (c .before .before .before .before .before .before .before .before .before .before .before .word .ensures)
+    (wrote-then (c .before .before .before .before .before .before .before .number .ensures) (c .before .before .word2 .ensures))
 
 pub refusal-line-spec : {M : Type 1} → statement M
 refusal-line-spec =

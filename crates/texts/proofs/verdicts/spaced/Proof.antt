@@ -9,10 +9,15 @@ use Rattle.texts.proofs.verdicts.spaced.Statement.{statement}
 use Rattle.texts.proofs.verdicts.spaced.Tie as tie
 
 word-requires : tie.Need-word-requires
-word-requires c κs = room-after 3 1 (c .before .before .before .before .number .ensures) (decimal-short _) (omega (arith, c .before .before .before .before .before .before .before .pre))
+word-requires c κs =
+    room-after 3 1
+    (c .before .before .before .before .number .ensures)
+    (decimal-short _)
+    (omega (arith, c .before .before .before .before .before .before .before .pre))
 
 returns : tie.Need-returns
-returns c = wrote-then (c .before .before .before .before .before .before .before .number .ensures) (c .before .before .word .ensures)
+returns c =
+    wrote-then (c .before .before .before .before .before .before .before .number .ensures) (c .before .before .word .ensures)
 
 pub spaced-spec : {M : Type 1} → statement M
 spaced-spec =

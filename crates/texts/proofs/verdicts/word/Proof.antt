@@ -21,13 +21,21 @@ loop-holds : tie.Need-loop-holds Inv-loop μ-loop
 loop-holds c = (omega arith, wrote-nothing _ _)
 
 slice-write-line : tie.Need-slice-write-line Inv-loop μ-loop
-slice-write-line c = let s = c .before .before .before in let i = c .before .before .loop in omega (arith, wrote-length (i .inv .1), wrote-room (s .args .bytes .now) (i .k) (i .inv .1) _ (omega arith) (s .pre))
+slice-write-line c =
+    let s = c .before .before .before in
+    let i = c .before .before .loop in
+    omega (arith, wrote-length (i .inv .1), wrote-room (s .args .bytes .now) (i .k) (i .inv .1) _ (omega arith) (s .pre))
 
 add-here : tie.Need-add-here Inv-loop μ-loop
-add-here c = let s = c .before .before .before in let i = c .before .before .loop in omega (arith, wrote-room (s .args .bytes .now) (i .k) (i .inv .1) _ (omega arith) (s .pre))
+add-here c =
+    let s = c .before .before .before in
+    let i = c .before .before .loop in
+    omega (arith, wrote-room (s .args .bytes .now) (i .k) (i .inv .1) _ (omega arith) (s .pre))
 
 loop-again : tie.Need-loop-again Inv-loop μ-loop
-loop-again c = let i = c .before .before .loop in (omega arith, wrote-more (c .before .before .before .args .bytes .now) (i .k) (i .inv .1) _ _ _ (omega arith) refl (wrote-byte _ _ _))
+loop-again c =
+    let i = c .before .before .loop in
+    (omega arith, wrote-more (c .before .before .before .args .bytes .now) (i .k) (i .inv .1) _ _ _ (omega arith) refl (wrote-byte _ _ _))
 
 same-length : tie.Need-same-length Inv-loop μ-loop
 same-length c = wrote-length (c .before .loop .inv .1)
