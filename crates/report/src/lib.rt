@@ -1,4 +1,17 @@
 // Text for the test programs, to standard output. What a program writes is held to its stored output, not proved.
+mod answers;
+mod lent;
+
+pub use answers::done_bytes;
+pub use answers::done_numbers;
+pub use answers::done_text;
+pub use answers::not_understood;
+pub use answers::refused;
+pub use answers::refused_bytes;
+pub use answers::refused_numbers;
+pub use answers::verdict;
+pub use lent::marked_bytes;
+pub use lent::marked_numbers;
 ghost use mathlib.Core.Path.{_≡_};
 ghost use lib.ListN.{take};
 
@@ -37,6 +50,15 @@ pub fn numbers(list: &[u16]) {
 
 pub fn end_line() {
     text(b"\n");
+}
+
+// A line that was read, cut where it is long.
+pub fn echo(words: &[u8]) {
+    text(front_bytes(words, 160));
+    if 160 < words.len() {
+        text(b" ..");
+    }
+    end_line();
 }
 
 // A count and what it counts, on a line of its own.

@@ -1,0 +1,98 @@
+// Answers, each on a line of its own: a refusal, what was written into a lent buffer, and a verdict.
+use super::bytes;
+use super::end_line;
+use super::front_bytes;
+use super::front_numbers;
+use super::lent::kept_bytes;
+use super::lent::kept_numbers;
+use super::number;
+use super::numbers;
+use super::text;
+
+fn refusal(why: u8) {
+    text(b"  refused ");
+    number(why as usize);
+}
+
+pub fn refused(why: u8) {
+    refusal(why);
+    end_line();
+}
+
+pub fn not_understood() {
+    text(b"  ?\n");
+}
+
+// How many places at the end of what was lent kept their content.
+fn kept(count: usize) {
+    text(b", ");
+    number(count);
+    text(b" kept");
+}
+
+// A refusal that left so many places as they were.
+fn refused_with(why: u8, places: usize) {
+    refusal(why);
+    kept(places);
+    end_line();
+}
+
+pub fn refused_numbers(why: u8, lent: &[u16]) {
+    refused_with(why, kept_numbers(lent));
+}
+
+pub fn refused_bytes(why: u8, lent: &[u8]) {
+    refused_with(why, kept_bytes(lent));
+}
+
+fn done(count: usize, places: usize) {
+    text(b"  done ");
+    number(count);
+    kept(places);
+}
+
+// So many places at the front of what was lent were written: their content.
+pub fn done_numbers(count: usize, lent: &[u16]) {
+    done(count, kept_numbers(lent));
+    text(b":");
+    numbers(front_numbers(lent, count));
+    end_line();
+}
+
+pub fn done_bytes(count: usize, lent: &[u8]) {
+    done(count, kept_bytes(lent));
+    text(b":");
+    bytes(front_bytes(lent, count));
+    end_line();
+}
+
+// The same of text, on lines of its own.
+pub fn done_text(count: usize, lent: &[u8]) {
+    done(count, kept_bytes(lent));
+    end_line();
+    text(front_bytes(lent, count));
+}
+
+fn place(x: usize) {
+    number(x);
+    text(b" ");
+}
+
+fn deal(free: bool) {
+    if free {
+        text(b"free ");
+    } else {
+        text(b"tariff ");
+    }
+}
+
+// A verdict as the paper lists it: its number, grower, pilot, deal and count.
+pub fn verdict(which: usize, grower: usize, pilot: usize, free: bool, count: usize) {
+    text(b"  ");
+    place(which);
+    place(grower);
+    place(pilot);
+    deal(free);
+    number(count);
+    end_line();
+}

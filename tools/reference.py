@@ -1,0 +1,454 @@
+"""What the program `cases` must print, worked out apart from it.
+
+    python3 tools/reference.py crates/cases/stdin PROGRAM_OUTPUT > expected
+
+reads the cases and writes the report that is expected of them. Unpacking, packing and marking follow the words of the paper, with
+every spare listed one by one. For `settle` and for the `sheet` of a ticket that can be settled many answers are right: there the
+program's own answer is taken from PROGRAM_OUTPUT, judged, and written through only if it is a sound settlement, or the sheet of
+one. Otherwise a line says what is wrong. So the program is right if `expected` is the same as PROGRAM_OUTPUT.
+
+The head of crates/cases/stdin says how the cases are written. Python 3, without packages.
+"""
+import itertools
+import sys
+
+TARIFF, FREE = "tariff", "free"
+ROOM = 8300  # the longest buffer that the program can lend
+LONGEST = 2200  # the longest document that it can read
+SHOWN = 160  # so much of a line is printed again
+
+
+class Refused(Exception):
+    """A refusal with its number."""
+
+    def __init__(self, why):
+        super().__init__(why)
+        self.why = why
+
+
+class NotUnderstood(Exception):
+    """A line that is no case."""
+
+
+# Numbers in groups of seven bits
+
+
+def read_number(data, at, ends, top_bit, padded):
+    """The number at a place and the place after it. The last three say with which number to refuse."""
+    if at >= len(data):
+        raise Refused(ends)
+    if data[at] < 0x80:
+        return data[at], at + 1
+    if at + 1 >= len(data):
+        raise Refused(ends)
+    if data[at + 1] >= 0x80:
+        raise Refused(top_bit)
+    if data[at + 1] == 0:
+        raise Refused(padded)
+    return (data[at] & 0x7F) + (data[at + 1] << 7), at + 2
+
+
+def number_bytes(x):
+    return [x] if x < 0x80 else [(x & 0x7F) | 0x80, x >> 7]
+
+
+def all_bytes(numbers):
+    return [byte for x in numbers for byte in number_bytes(x)]
+
+
+# Tickets and settlements. `take()` hands out the next number of a file or a list, and `left()` says whether anything is left.
+
+
+def from_bytes(data, ends, top_bit, padded):
+    place = [0]
+
+    def take():
+        x, place[0] = read_number(data, place[0], ends, top_bit, padded)
+        return x
+
+    return take, lambda: place[0] < len(data)
+
+
+def from_list(numbers, ends, largest=None, too_large=None):
+    rest = list(numbers)
+
+    def take():
+        if not rest:
+            raise Refused(ends)
+        x = rest.pop(0)
+        if largest is not None and x > largest:
+            raise Refused(too_large)
+        return x
+
+    return take, lambda: bool(rest)
+
+
+def ticket_numbers(take, left):
+    numbers = []
+
+    def take_checked(wrong, why):
+        x = take()
+        if wrong(x):
+            raise Refused(why)
+        numbers.append(x)
+        return x
+
+    take_checked(lambda x: x != 1, 4)
+    n = take_checked(lambda x: not 1 <= x <= 16, 5)
+    m = take_checked(lambda x: not 1 <= x <= 16, 5)
+    for _ in range(n + m):
+        take_checked(lambda x: x > 60, 6)
+    for _ in range(n * m):
+        for amounts in (2, 1):  # a tariff deal has two amounts, a free deal one
+            cap = take_checked(lambda x: x > 60, 7)
+            for _ in range(amounts):
+                amount = take_checked(lambda x: x > 500, 7)
+                if cap == 0 and amount != 0:
+                    raise Refused(8)
+    if left():
+        raise Refused(9)
+    return numbers
+
+
+def settlement_numbers(n, m, take, left):
+    numbers = [take()]
+    if numbers[0] != 2:
+        raise Refused(14)
+    for wanted in (n, m):
+        numbers.append(take())
+        if numbers[-1] != wanted:
+            raise Refused(15)
+    for _ in range(3 * n * m):
+        numbers.append(take())
+    if left():
+        raise Refused(16)
+    return numbers
+
+
+def unpack(data):
+    return ticket_numbers(*from_bytes(data, 1, 2, 3))
+
+
+def pack(numbers):
+    return all_bytes(ticket_numbers(*from_list(numbers, 1)))
+
+
+def read_settlement(data, n, m):
+    return settlement_numbers(n, m, *from_bytes(data, 11, 12, 13))
+
+
+def write_settlement(numbers, n, m):
+    return all_bytes(settlement_numbers(n, m, *from_list(numbers, 11, 0x3FFF, 12)))
+
+
+# Soundness
+
+
+class Ticket:
+    def __init__(self, numbers):
+        self.n, self.m = numbers[1:3]
+        rest = numbers[3:]
+        self.grower_hours = rest[: self.n]
+        self.pilot_hours = rest[self.n : self.n + self.m]
+        rest = rest[self.n + self.m :]
+        self.pairs = list(itertools.product(range(self.n), range(self.m)))
+        self.terms = {pair: rest[5 * k : 5 * k + 5] for k, pair in enumerate(self.pairs)}
+
+    def cap(self, pair, deal):
+        return self.terms[pair][0 if deal == TARIFF else 3]
+
+
+class Settlement:
+    def __init__(self, ticket, numbers):
+        rest = numbers[3:]
+        self.ticket = ticket
+        self.rows = {pair: rest[3 * k : 3 * k + 3] for k, pair in enumerate(ticket.pairs)}
+
+    def hours(self, pair, deal):
+        return self.rows[pair][0 if deal == TARIFF else 1]
+
+    def worth(self, party, pair, deal):
+        """What an hour of a deal earns the grower (0) or the pilot (1) of the pair."""
+        _, a, b, _, c = self.ticket.terms[pair]
+        v = self.rows[pair][2]
+        return {(0, TARIFF): a, (1, TARIFF): b, (0, FREE): c - v, (1, FREE): v}[party, deal]
+
+    def own_deals(self, party, who):
+        return [(pair, deal) for pair in self.ticket.pairs if pair[party] == who for deal in (TARIFF, FREE)]
+
+    def own_hours(self, party, who):
+        return (self.ticket.grower_hours, self.ticket.pilot_hours)[party][who]
+
+    def free_hours(self, party, who):
+        return self.own_hours(party, who) - sum(self.hours(*deal) for deal in self.own_deals(party, who))
+
+    def spares(self, party, pair, deal):
+        """The worth of each spare that the grower or the pilot of a pair has for a deal, hour by hour."""
+        who = pair[party]
+        worths = [0] * self.free_hours(party, who)
+        for other in self.own_deals(party, who):
+            if other != (pair, deal):
+                worths += [self.worth(party, *other)] * self.hours(*other)
+        return worths
+
+    def is_idle(self, pair, deal):
+        return all(self.free_hours(party, pair[party]) > 0 for party in (0, 1))
+
+    def blocks(self, pair, deal):
+        _, a, b, _, c = self.ticket.terms[pair]
+        of_grower, of_pilot = self.spares(0, pair, deal), self.spares(1, pair, deal)
+        if deal == TARIFF:
+            return any(spare < a for spare in of_grower) and any(spare < b for spare in of_pilot)
+        return bool(of_grower) and bool(of_pilot) and c > min(of_grower) + min(of_pilot)
+
+    def verdict(self):
+        """Verdict, grower, pilot, deal, count."""
+        ticket = self.ticket
+        for pair in ticket.pairs:
+            tariff_hours, free_hours, v = self.rows[pair]
+            if tariff_hours > ticket.cap(pair, TARIFF):
+                return (2, *pair, TARIFF, 0)
+            if free_hours > ticket.cap(pair, FREE):
+                return (3, *pair, FREE, 0)
+            if v > ticket.terms[pair][4] or (free_hours == 0 and v != 0):
+                return (4, *pair, FREE, 0)
+        for grower in range(ticket.n):
+            if self.free_hours(0, grower) < 0:
+                return (5, grower, 0, TARIFF, 0)
+        for pilot in range(ticket.m):
+            if self.free_hours(1, pilot) < 0:
+                return (6, 0, pilot, TARIFF, 0)
+        count = 0
+        for pair in ticket.pairs:
+            for deal in (TARIFF, FREE):
+                count += 1
+                if self.hours(pair, deal) < ticket.cap(pair, deal):
+                    if self.is_idle(pair, deal):
+                        return (7, *pair, deal, count)
+                    if self.blocks(pair, deal):
+                        return (8, *pair, deal, count)
+        return (1, 0, 0, TARIFF, count)
+
+    def sheet(self):
+        lines = ["SHEET %d %d" % (self.ticket.n, self.ticket.m)]
+        for (i, j), (tariff_hours, free_hours, v) in self.rows.items():
+            if tariff_hours + free_hours > 0:
+                _, a, b, _, c = self.ticket.terms[i, j]
+                lines.append("%d %d %d %d %d %d %d %d" % (i, j, tariff_hours, a, b, free_hours, c - v if free_hours else 0, v))
+        lines.append("SOUND %d" % self.verdict()[4])
+        return "".join(line + "\n" for line in lines)
+
+
+def mark(ticket_data, settlement_data):
+    ticket = Ticket(unpack(ticket_data))
+    return Settlement(ticket, read_settlement(settlement_data, ticket.n, ticket.m)).verdict()
+
+
+# The lines of the cases
+
+
+def decimal(word, most):
+    if not word or any(digit not in "0123456789" for digit in word) or int(word) > most:
+        raise NotUnderstood
+    return int(word)
+
+
+def hexadecimal(word):
+    if not word or any(digit not in "0123456789abcdef" for digit in word) or int(word, 16) > 0xFF:
+        raise NotUnderstood
+    return int(word, 16)
+
+
+def document(text, number):
+    """A list of numbers: `x *3` is x three times, `( x y ) *3` is x y three times."""
+    numbers, item, group = [], 0, 0
+    for word in filter(None, text.split(" ")):
+        if word == "(":
+            group = len(numbers)
+        elif word == ")":
+            item = group
+        elif word[0] == "*":
+            times = decimal(word[1:], 99999)
+            if times == 0:
+                raise NotUnderstood
+            numbers += numbers[item:] * (times - 1)
+        else:
+            item = len(numbers)
+            numbers.append(number(word))
+        if len(numbers) > LONGEST:
+            raise NotUnderstood
+    return numbers
+
+
+def list_word(word):
+    return decimal(word, 0xFFFF)
+
+
+# Answers
+
+
+def reply(work, room, spell):
+    """An operation that writes a list or bytes into a lent buffer of `room` places, all of them or none."""
+    try:
+        written = work()
+        if len(written) > room:
+            raise Refused(10)
+    except Refused as refusal:
+        return "  refused %d, %d kept\n" % (refusal.why, room)
+    return "  done %d, %d kept:%s\n" % (len(written), room - len(written), "".join(" " + spell(x) for x in written))
+
+
+def hex_byte(x):
+    return "%02x" % x
+
+
+def verdict_line(work):
+    try:
+        return "  %d %d %d %s %d\n" % work()
+    except Refused as refusal:
+        return "  refused %d\n" % refusal.why
+
+
+def wrong(what):
+    return "  WRONG: %s\n" % what
+
+
+def settled(data, room, answer):
+    """The expected answer to `settle`, given the program's own."""
+    try:
+        ticket = Ticket(unpack(data))
+        if room < 3 + 4 * ticket.n * ticket.m:
+            raise Refused(10)
+    except Refused as refusal:
+        return "  refused %d, %d kept\n" % (refusal.why, room)
+    head, _, listed = answer.partition("\n")[0].partition(":")
+    if not head.startswith("  done "):
+        return wrong("the ticket can be settled")
+    try:
+        written = [hexadecimal(word) for word in listed.split()]
+        verdict = Settlement(ticket, read_settlement(written, ticket.n, ticket.m)).verdict()
+    except NotUnderstood:
+        return wrong("no bytes")
+    except Refused as refusal:
+        return wrong("no settlement of this ticket, refused with %d" % refusal.why)
+    if verdict != (1, 0, 0, TARIFF, 2 * ticket.n * ticket.m):
+        return wrong("not sound, verdict %d %d %d %s %d" % verdict)
+    return reply(lambda: written, room, hex_byte) + verdict_line(lambda: verdict)
+
+
+def sound_sheets(ticket):
+    """Every sheet that a ticket may have: for the smallest tickets alone, since it tries all settlements."""
+    ranges = []
+    for tariff_cap, _, _, free_cap, c in ticket.terms.values():
+        ranges += [range(tariff_cap + 1), range(free_cap + 1), range(c + 1)]
+    for row in itertools.product(*ranges):
+        settlement = Settlement(ticket, [2, ticket.n, ticket.m, *row])
+        if settlement.verdict()[0] == 1:
+            yield settlement.sheet()
+
+
+def shown_settlement(ticket, text):
+    """The settlement that a sheet shows, if it is laid out as a sheet of this ticket."""
+    rows = {pair: [0, 0, 0] for pair in ticket.pairs}
+    for line in text.split("\n")[1:-2]:
+        i, j, tariff_hours, _, _, free_hours, _, v = (int(word) for word in line.split(" "))
+        rows[i, j] = [tariff_hours, free_hours, v]
+    return Settlement(ticket, [2, ticket.n, ticket.m, *itertools.chain(*rows.values())])
+
+
+def sheet(data, room, answer):
+    """The expected answer to `sheet`, given the program's own."""
+    try:
+        ticket = Ticket(unpack(data))
+    except Refused as refusal:
+        return text_reply("REFUSED %d\n" % refusal.why, room)
+    if answer == no_room(room):
+        fits = all(len(text) <= room for text in sound_sheets(ticket))
+        return wrong("every sheet of this ticket fits") if fits else answer
+    text = answer.partition("\n")[2]
+    try:
+        settlement = shown_settlement(ticket, text)
+    except (ValueError, KeyError):
+        return wrong("not laid out as a sheet")
+    verdict = settlement.verdict()
+    if verdict[0] != 1:
+        return wrong("shows a settlement with verdict %d %d %d %s %d" % verdict)
+    return text_reply(settlement.sheet(), room)
+
+
+def no_room(room):
+    return "  refused 10, %d kept\n" % room
+
+
+def text_reply(text, room):
+    if room < len(text):
+        return no_room(room)
+    return "  done %d, %d kept\n%s" % (len(text), room - len(text), text)
+
+
+def answer_to(line, own):
+    """The expected answer to a line. `own` is the program's."""
+    words = line.split(" ")
+    operation = words[0]
+    if operation == "mark":
+        ticket, _, settlement = line[len("mark ") :].partition("/")
+        ticket, settlement = document(ticket, hexadecimal), document(settlement, hexadecimal)
+        return verdict_line(lambda: mark(ticket, settlement))
+    heads = {"unpack": 1, "pack": 1, "read": 3, "write": 3, "settle": 1, "sheet": 1}
+    if operation not in heads or len(words) <= heads[operation]:
+        raise NotUnderstood
+    *parties, room = words[1 : 1 + heads[operation]]
+    parties = [decimal(word, 99999) for word in parties]
+    room = decimal(room, ROOM)
+    text, _, second = " ".join(words[1 + heads[operation] :]).partition("/")
+    number = list_word if operation in ("pack", "write") else hexadecimal
+    data = document(text, number)
+    if document(second, number):
+        raise NotUnderstood
+    if operation == "unpack":
+        return reply(lambda: unpack(data), room, str)
+    if operation == "pack":
+        return reply(lambda: pack(data), room, hex_byte)
+    if operation == "read":
+        return reply(lambda: read_settlement(data, *parties), room, str)
+    if operation == "write":
+        return reply(lambda: write_settlement(data, *parties), room, hex_byte)
+    return (settled if operation == "settle" else sheet)(data, room, own)
+
+
+def echo(line):
+    return (line[:SHOWN] + " .." if len(line) > SHOWN else line) + "\n"
+
+
+def own_answers(lines, output):
+    """The program's answer to each line but the last: what it printed between that line and the next."""
+    answers, at = [], 0
+    for line, following in zip(lines, lines[1:]):
+        if output.startswith(echo(line), at):
+            at += len(echo(line))
+        end = max(at, output.find("\n" + echo(following), at - 1) + 1)
+        answers.append(output[at:end])
+        at = end
+    return answers
+
+
+def main():
+    with open(sys.argv[1], encoding="ascii") as cases, open(sys.argv[2], encoding="ascii") as output:
+        text = cases.read()
+        lines = text.split("\n")[:-1]
+        last = "  %d bytes read" % len(text)
+        answers = own_answers(lines + [last], output.read())
+    run = unknown = 0
+    for line, own in zip(lines, answers):
+        sys.stdout.write(echo(line))
+        if line and not line.startswith("#"):
+            try:
+                sys.stdout.write(answer_to(line, own))
+                run += 1
+            except NotUnderstood:
+                sys.stdout.write("  ?\n")
+                unknown += 1
+    sys.stdout.write(echo(last) + "  %d cases\n  %d not understood\n" % (run, unknown))
+
+
+main()
