@@ -185,18 +185,7 @@ impl Market<'_> {
         let grower = place.grower;
         let mut spares = vec![0; free.of_growers[grower] as usize];
         for pilot in 0..self.ticket.pilots() {
-            let (terms, agreement) = self.pair(grower, pilot);
-            for deal in Deal::BOTH {
-                let other = Place {
-                    grower,
-                    pilot,
-                    deal,
-                };
-                if other != place {
-                    let (hours, worth) = grower_earns(terms, agreement, deal);
-                    spares.extend(repeat_n(worth, usize::from(hours)));
-                }
-            }
+            self.add_spares(&mut spares, (grower, pilot), place, grower_earns);
         }
         spares
     }
@@ -206,20 +195,31 @@ impl Market<'_> {
         let pilot = place.pilot;
         let mut spares = vec![0; free.of_pilots[pilot] as usize];
         for grower in 0..self.ticket.growers() {
-            let (terms, agreement) = self.pair(grower, pilot);
-            for deal in Deal::BOTH {
-                let other = Place {
-                    grower,
-                    pilot,
-                    deal,
-                };
-                if other != place {
-                    let (hours, worth) = pilot_earns(terms, agreement, deal);
-                    spares.extend(repeat_n(worth, usize::from(hours)));
-                }
-            }
+            self.add_spares(&mut spares, (grower, pilot), place, pilot_earns);
         }
         spares
+    }
+
+    /// Adds what each hour of a pair earns a party, but for the hours of the deal itself.
+    fn add_spares(
+        &self,
+        spares: &mut Vec<u16>,
+        (grower, pilot): (usize, usize),
+        place: Place,
+        earns: fn(&Terms, &Agreement, Deal) -> (u16, u16),
+    ) {
+        let (terms, agreement) = self.pair(grower, pilot);
+        for deal in Deal::BOTH {
+            let other = Place {
+                grower,
+                pilot,
+                deal,
+            };
+            if other != place {
+                let (hours, worth) = earns(terms, agreement, deal);
+                spares.extend(repeat_n(worth, usize::from(hours)));
+            }
+        }
     }
 }
 
