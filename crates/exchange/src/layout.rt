@@ -2,7 +2,7 @@
 use files::counted;
 use files::end_line;
 use libc::STDOUT_FILENO;
-use marker::Quantity;
+use tables::Quantity;
 
 fn party(word: &[u8], k: usize, hours: u16) {
     counted(STDOUT_FILENO, word, k as u64);
@@ -60,15 +60,15 @@ pub(crate) fn ticket(numbers: &[u16]) {
     counted(STDOUT_FILENO, b"growers ", growers as u64);
     counted(STDOUT_FILENO, b" pilots ", pilots as u64);
     end_line(STDOUT_FILENO);
-    parties(b"grower ", growers, marker::grower_hours(numbers));
-    parties(b"pilot ", pilots, marker::pilot_hours(numbers));
+    parties(b"grower ", growers, tables::grower_hours(numbers));
+    parties(b"pilot ", pilots, tables::pilot_hours(numbers));
     pairs(
         growers,
         pilots,
-        marker::square(numbers, Quantity::TariffCap),
-        marker::square(numbers, Quantity::TariffGain),
-        marker::square(numbers, Quantity::TariffPay),
-        marker::square(numbers, Quantity::FreeCap),
-        marker::square(numbers, Quantity::JointGain),
+        tables::square(numbers, Quantity::TariffCap),
+        tables::square(numbers, Quantity::TariffGain),
+        tables::square(numbers, Quantity::TariffPay),
+        tables::square(numbers, Quantity::FreeCap),
+        tables::square(numbers, Quantity::JointGain),
     );
 }

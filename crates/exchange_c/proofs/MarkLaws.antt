@@ -18,7 +18,7 @@ use Rattle.reader.proofs.Facts.{unpacked-shape}
 use Rattle.marker.specs.declared.Verdict.{Verdict}
 use Rattle.marker.specs.declared.Verdict.the-variants.{Refused, Sound, TariffOverCap, FreeOverCap, WrongPay}
 use Rattle.marker.specs.declared.Verdict.the-variants.{GrowerOverHours, PilotOverHours, Idle, Blocks}
-use Rattle.marker.specs.View.{growersOf, pilotsOf, ticketOf, settlementOf}
+use Rattle.tables.specs.View.{growersOf, pilotsOf, ticketOf, settlementOf}
 use Rattle.marker.specs.Verdict.{walk, byPair, pairs, dealAt, overCap, idle, pairVerdict, pairFaultAt, dealFaultAt, dealVerdict}
 use Rattle.marker.specs.Verdict.{dealVerdictAt, dealsJudged, hoursJudged, judged, growerOver, pilotOver}
 use Rattle.marker.specs.Verdict.{verdictNumber, verdictGrower, verdictPilot, verdictDeal, verdictCount}

@@ -25,7 +25,7 @@ use Rattle.reader.proofs.GroupLaws.{read-padded, read-last, read-more}
 use Rattle.reader.proofs.WalkLaws.{form-accepts}
 use Rattle.reader.proofs.TicketLaws.{shape}
 use Rattle.reader.proofs.Facts.{unpacked-shape, settlement-shape}
-use Rattle.marker.specs.View.{growersOf, pilotsOf}
+use Rattle.tables.specs.View.{growersOf, pilotsOf}
 use Rattle.settler.specs.Settled.{SettledIn, Answers, Settled, roomFor}
 use Rattle.sheets.specs.Sheeted.{IsSheet, Sheeted}
 use Rattle.sheets.specs.Writing.{pageBytes}

@@ -15,7 +15,7 @@ use Rattle.reader.specs.Answer.{unpacked, settlementRead, reply, kept}
 use Rattle.reader.proofs.Facts.{unpacked-shape, settlement-shape, settlement-few, reply-done, reply-refused}
 use Rattle.marker.specs.declared.Verdict.{Verdict}
 use Rattle.marker.specs.declared.Verdict.the-variants.{Refused, Sound}
-use Rattle.marker.specs.View.{growersOf, pilotsOf, ticketOf, settlementOf}
+use Rattle.tables.specs.View.{growersOf, pilotsOf, ticketOf, settlementOf}
 use Rattle.marker.specs.Verdict.{judged, verdictNumber}
 use Rattle.marker.specs.Marked.{settlementMarked, ticketMarked, marked, SoundFiles}
 use Rattle.marker.proofs.Soundness.{NoStandby, sound-exactly, sound-number}

@@ -1,6 +1,6 @@
 -- What the rows of a party say of its spares, and of a deal that is at fault.
 -- Assumes nothing.
-use Prim.Native.Nat.{ℕ, zero, suc, _+_, _-_, _<_, min}
+use Prim.Native.Nat.{ℕ, zero, suc, _-_, _<_}
 use mathlib.Core.Path.{_≡_, refl, ap, _∙_}
 use mathlib.Core.Logic.{⊎-elim}
 use mathlib.Core.Bool.{Bool, true, false, cond, _||_}
@@ -15,11 +15,10 @@ use Rattle.grid.proofs.Sums.{sum-same}
 use Rattle.market.specs.declared.Deal.{Deal}
 use Rattle.market.specs.declared.Deal.the-variants.{Tariff, Free}
 use Rattle.market.specs.Market.{sumDeals}
-use Rattle.marker.specs.declared.Pair.{Pair}
+use Rattle.tables.specs.declared.Pair.{Pair}
 use Rattle.marker.specs.declared.Party.{Party}
 use Rattle.marker.specs.declared.Spare.{Spare}
 use Rattle.marker.specs.declared.Spare.the-variants.{Nothing}
-use Rattle.marker.specs.View.{growersOf, pilotsOf, pilotHoursOf}
 use Rattle.marker.specs.Verdict.{countIn, cheapestOf, besides, dealAt}
 use Rattle.grid.specs.Fill.{FilledRow}
 use Rattle.marker.specs.Tables.{PartyOf, lines, usedIn, besideOwn, spareIn, idleIn, blocksIn, wrongIn}
@@ -91,8 +90,3 @@ module _ (g p : Party) (q : Pair) (n m i j : ℕ) (d : Deal) (b : Bool) (eb : b 
 -- the test of being over, on numbers that are the party's
 pub over-there : (own u h a b : ℕ) → h ≡ own → a ≡ h → b ≡ u → ltb own u ≡ ltb a b
 over-there own u h a b eh ea eb = rw (ea, eh, eb)
-
--- the hours of pilots stand after those of growers
-pub pilot-row : (list : List ℕ) (n k : ℕ) (r : List ℕ) → n ≡ growersOf list → k ≡ pilotsOf list →
-    FilledRow (λ i. getD list (3 + n + i) 0) (min 16 k) r → FilledRow (pilotHoursOf list) (min 16 (pilotsOf list)) r
-pilot-row list n k r e f p = rw (e, f) at p

@@ -6,7 +6,7 @@ use mathlib.Core.List.{List}
 use Rattle.grid.specs.First.{first}
 use Rattle.market.specs.Market.{Ticket, Settlement}
 use Rattle.marker.specs.declared.Verdict.the-variants.{Sound, GrowerOverHours, PilotOverHours}
-use Rattle.marker.specs.View.{growersOf, pilotsOf, ticketOf}
+use Rattle.tables.specs.View.{growersOf, pilotsOf, ticketOf}
 use Rattle.marker.specs.Tables.{growerOverIn, pilotOverIn}
 use Rattle.marker.specs.Verdict.{byPair, wrongPair, pairs, growerOver, pilotOver, pairVerdict, pairFaultAt, dealFaultAt, dealVerdictAt}
 use Rattle.marker.specs.Verdict.{dealsJudged, hoursJudged, judged}

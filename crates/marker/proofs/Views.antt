@@ -10,31 +10,16 @@ use Rattle.grid.proofs.Places.{inside, cell-place, at-place}
 use Rattle.market.specs.declared.Deal.{Deal}
 use Rattle.market.specs.declared.Deal.the-variants.{Tariff, Free}
 use Rattle.market.specs.Market.{Ticket, Settlement, cap}
-use Rattle.marker.specs.declared.Pair.{Pair}
+use Rattle.tables.specs.declared.Pair.{Pair}
 use Rattle.marker.specs.declared.Party.{Party}
 use Rattle.marker.specs.declared.Verdict.the-variants.{Idle, Blocks}
-use Rattle.marker.specs.View.{growersOf, pilotsOf, ticketOf}
+use Rattle.tables.specs.View.{growersOf, pilotsOf, ticketOf}
+use Rattle.tables.specs.Pairs.{PairsOf, pairOf, pairAt}
 use Rattle.marker.specs.Verdict.{byPair, pairVerdict, dealAt, freeOfGrower, freeOfPilot, idle, wrongPair, wrongDeal, dealVerdict, dealFaultAt}
-use Rattle.marker.specs.Tables.{Sized, PairsOf, pairOf, pairAt, wrongPairIn, pairVerdictIn, hoursIn, capIn, pairTestIn, growerUsedIn, pilotUsedIn, GrowerIn, PilotIn}
+use Rattle.marker.specs.Tables.{Sized, wrongPairIn, pairVerdictIn, hoursIn, capIn, pairTestIn, growerUsedIn, pilotUsedIn, GrowerIn, PilotIn}
 use Rattle.marker.specs.Tables.{idleIn, wrongIn}
 use Rattle.marker.proofs.Spares.{spare-same, test-same}
 use Rattle.marker.proofs.Walks.{first-same}
-
--- the pair of eight numbers that are its quantities
-pub pair-made : (t : Ticket) (x : Settlement) (i j tariffCap tariffGain tariffPay freeCap joint tariffHours freeHours pay : ℕ) →
-    tariffCap ≡ t .tariffCap i j → tariffGain ≡ t .tariffGain i j → tariffPay ≡ t .tariffPay i j → freeCap ≡ t .freeCap i j →
-    joint ≡ t .jointGain i j → tariffHours ≡ x .hours Tariff i j → freeHours ≡ x .hours Free i j → pay ≡ x .pay i j →
-    _≡_ {A = Pair} (record {
-      «tariff_cap» = tariffCap;
-      «tariff_gain» = tariffGain;
-      «tariff_pay» = tariffPay;
-      «free_cap» = freeCap;
-      joint = joint;
-      «tariff_hours» = tariffHours;
-      «free_hours» = freeHours;
-      pay = pay;
-    }) (pairOf t x i j)
-pair-made t x i j tariffCap tariffGain tariffPay freeCap joint tariffHours freeHours pay a b c d e f g h = rw (a, b, c, d, e, f, g, h)
 
 -- the test of a pair, at its place
 pub pair-there : (pairs : List (List Pair)) (m i j : ℕ) (r : Bool) → j < m → r ≡ pairTestIn (pairAt pairs i j) →

@@ -1,4 +1,3 @@
-pub mod View
 pub mod Verdict
 pub mod Marked
 pub mod Examples

@@ -8,7 +8,7 @@ use Rattle.reader.specs.Answer.{unpacked, settlementRead}
 use Rattle.market.specs.Market as market
 use Rattle.marker.specs.declared.Verdict.{Verdict}
 use Rattle.marker.specs.declared.Verdict.the-variants.{Refused}
-use Rattle.marker.specs.View.{growersOf, pilotsOf, ticketOf, settlementOf}
+use Rattle.tables.specs.View.{growersOf, pilotsOf, ticketOf, settlementOf}
 use Rattle.marker.specs.Verdict.{judged}
 
 -- the ticket's numbers are xs

@@ -7,14 +7,14 @@ use mathlib.Core.List.{List, []}
 use lib.Dec.{ltb}
 use lib.ListN.{getD, set}
 use Rattle.market.specs.declared.Deal.{Deal}
-use Rattle.market.specs.declared.Deal.the-variants.{Tariff, Free}
 use Rattle.market.specs.Market.{Ticket, Settlement, sumDeals, earnedByGrower, earnedByPilot}
-use Rattle.marker.specs.declared.Pair.{Pair}
 use Rattle.marker.specs.declared.Party.{Party}
 use Rattle.marker.specs.declared.Spare.{Spare}
 use Rattle.marker.specs.declared.Verdict.{Verdict}
 use Rattle.marker.specs.declared.Verdict.the-variants.{TariffOverCap, FreeOverCap, WrongPay}
-use Rattle.marker.specs.View.{byDeal, growersOf, pilotsOf}
+use Rattle.tables.specs.declared.Pair.{Pair}
+use Rattle.tables.specs.View.{byDeal, growersOf, pilotsOf}
+use Rattle.tables.specs.Pairs.{pairAt}
 use Rattle.marker.specs.Verdict.{pairTest, idleTest, blocksTest, cheapestSpare, byPair}
 
 -- a ticket of n growers and m pilots, within the limits
@@ -25,43 +25,6 @@ pub record Sized (n m : ℕ) (list : List ℕ) : Type 0 where
   pub fewPilots : m ≤ 16
 
 -- Pairs.
-
--- the pair of grower i and pilot j
-abbrev pub pairOf : Ticket → Settlement → ℕ → ℕ → Pair
-pairOf t x i j = record {
-  «tariff_cap» = t .tariffCap i j;
-  «tariff_gain» = t .tariffGain i j;
-  «tariff_pay» = t .tariffPay i j;
-  «free_cap» = t .freeCap i j;
-  joint = t .jointGain i j;
-  «tariff_hours» = x .hours Tariff i j;
-  «free_hours» = x .hours Free i j;
-  pay = x .pay i j;
-}
-
--- no pair, where a row has ended
-abbrev pub noPair : Pair
-noPair = record {
-  «tariff_cap» = 0;
-  «tariff_gain» = 0;
-  «tariff_pay» = 0;
-  «free_cap» = 0;
-  joint = 0;
-  «tariff_hours» = 0;
-  «free_hours» = 0;
-  pay = 0;
-}
-
--- the pair in a square of pairs
-abbrev pub pairAt : List (List Pair) → ℕ → ℕ → Pair
-pairAt pairs i j = getD (getD pairs i []) j noPair
-
--- the row, and the square, of the pairs of m pilots and n growers
-abbrev pub PairsOfGrower : Ticket → Settlement → ℕ → ℕ → List Pair → Type 0
-PairsOfGrower t x m i row = (j : ℕ) → j < m → getD row j noPair ≡ pairOf t x i j
-
-abbrev pub PairsOf : Ticket → Settlement → ℕ → ℕ → List (List Pair) → Type 0
-PairsOf t x n m pairs = (i : ℕ) → i < n → PairsOfGrower t x m i (getD pairs i [])
 
 -- the hours and the cap of a deal
 abbrev pub hoursIn : Pair → Deal → ℕ

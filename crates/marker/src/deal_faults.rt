@@ -3,11 +3,11 @@ ghost use mathlib.Core.Path.{_≡_};
 ghost use mathlib.Core.Bool.{cond, _&&_};
 ghost use Prim.Native.Nat.{_+_, _*_, _/_, _%_, _<_, _≤_};
 ghost use Rattle.grid.specs.First.{first};
-ghost use Rattle.marker.specs.View.{byDeal, ticketOf, settlementOf};
+ghost use Rattle.tables.specs.View.{byDeal, ticketOf, settlementOf};
 ghost use Rattle.marker.specs.Verdict.{idleTest, blocksTest, dealAt, dealFaultAt, dealVerdictAt};
-ghost use Rattle.marker.specs.Tables.{Sized, PairsOf, idleIn, blocksIn, wrongIn};
+ghost use Rattle.marker.specs.Tables.{Sized, idleIn, blocksIn, wrongIn};
+ghost use Rattle.tables.specs.Pairs.{PairsOf};
 ghost use Rattle.marker.specs.declared.Verdict.the-variants as Verdict;
-use crate::Pair;
 use crate::Party;
 use crate::Spare;
 use crate::Verdict;
@@ -19,6 +19,7 @@ use crate::parties::all_pilots;
 use crate::parties::grower_at;
 use crate::parties::pilot_at;
 use market::Deal;
+use tables::Pair;
 
 fn deal_of(d: usize) -> Deal
     ensures { λ r. ⌜ r ≡ dealAt d ⌝ }

@@ -1,22 +1,23 @@
 // The verdict on a settlement of a ticket, both as lists of numbers: pairs, then hours, then deals.
 ghost use mathlib.Core.Path.{_≡_};
 ghost use Prim.Native.Nat.{_≤_};
-ghost use Rattle.marker.specs.View.{growersOf, pilotsOf};
-ghost use Rattle.marker.specs.View.{ticketOf, settlementOf};
+ghost use Rattle.tables.specs.View.{growersOf, pilotsOf};
+ghost use Rattle.tables.specs.View.{ticketOf, settlementOf};
 ghost use Rattle.marker.specs.Verdict.{dealsJudged, hoursJudged, judged};
-ghost use Rattle.marker.specs.Tables.{Sized, PairsOf};
-use crate::Pair;
+ghost use Rattle.marker.specs.Tables.{Sized};
+ghost use Rattle.tables.specs.Pairs.{PairsOf};
 use crate::Verdict;
 use crate::deal_faults::first_wrong_deal;
 use crate::deal_faults::verdict_at;
 use crate::pair_faults::first_wrong_pair;
 use crate::pair_faults::pair_verdict_at;
 use crate::pair_faults::pairs;
-use crate::pairs::pair_square;
 use crate::party_hours::first_grower_over;
 use crate::party_hours::first_pilot_over;
-use crate::tables::growers;
-use crate::tables::pilots;
+use tables::Pair;
+use tables::growers;
+use tables::pair_square;
+use tables::pilots;
 
 // The last walk: verdicts 7 and 8, or sound.
 fn judge_deals(

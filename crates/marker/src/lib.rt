@@ -4,7 +4,7 @@ ghost use Prim.Native.Nat.{_≤_};
 ghost use lib.ListN.{length};
 ghost use Rattle.grid.specs.Grid.{at};
 ghost use Rattle.grid.specs.First.{first};
-ghost use Rattle.marker.specs.View.{growersOf, pilotsOf};
+ghost use Rattle.tables.specs.View.{growersOf, pilotsOf};
 ghost use Rattle.reader.specs.Answer.{settlementRead};
 ghost use Rattle.marker.specs.Marked.{settlementMarked, marked};
 
@@ -12,19 +12,12 @@ mod cheap_spares;
 mod deal_faults;
 mod judging;
 mod pair_faults;
-mod pairs;
 mod parties;
 mod party_hours;
-mod tables;
 
 use crate::judging::judge;
 use market::Deal;
 use reader::Reply;
-
-// The squares and rows that a list of numbers holds, for the crates above.
-pub use tables::grower_hours;
-pub use tables::pilot_hours;
-pub use tables::square;
 
 // The answer of marking. A fault names the grower, the pilot and the deal; the count is the number of deals looked at in the last walk.
 pub enum Verdict {
@@ -66,18 +59,6 @@ pub enum Verdict {
     },
 }
 
-// What a square of growers by pilots holds: five quantities of a ticket, three of a settlement.
-pub enum Quantity {
-    TariffCap,
-    TariffGain,
-    TariffPay,
-    FreeCap,
-    JointGain,
-    TariffHours,
-    FreeHours,
-    Pay,
-}
-
 // A party's cheapest spare for a deal, by what it is worth to him.
 pub(crate) enum Spare {
     Nothing,
@@ -91,18 +72,6 @@ pub(crate) struct Party {
     pub(crate) free: [u16; 16],
     pub(crate) earned: [u16; 16],
     pub(crate) share: [u16; 16],
-}
-
-// A pair of a grower and a pilot: what the ticket says of it, and the settlement.
-pub(crate) struct Pair {
-    pub(crate) tariff_cap: u16,
-    pub(crate) tariff_gain: u16,
-    pub(crate) tariff_pay: u16,
-    pub(crate) free_cap: u16,
-    pub(crate) joint: u16,
-    pub(crate) tariff_hours: u16,
-    pub(crate) free_hours: u16,
-    pub(crate) pay: u16,
 }
 
 fn no_ticket() -> [u16; 1315]

@@ -3,9 +3,10 @@ ghost use mathlib.Core.Path.{_≡_};
 ghost use Prim.Native.Nat.{_+_, _*_, _<_, _≤_};
 ghost use Rattle.grid.specs.First.{first};
 ghost use Rattle.marker.specs.Verdict.{payTest, byPair};
-ghost use Rattle.marker.specs.Tables.{pairAt, pairTestIn, wrongPairIn, pairVerdictIn};
-use crate::Pair;
+ghost use Rattle.marker.specs.Tables.{pairTestIn, wrongPairIn, pairVerdictIn};
+ghost use Rattle.tables.specs.Pairs.{pairAt};
 use crate::Verdict;
+use tables::Pair;
 
 fn wrong_pay(gain: u16, hours: u16, pay: u16) -> bool
     ensures { λ r. ⌜ r ≡ payTest gain hours pay ⌝ }

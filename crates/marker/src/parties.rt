@@ -4,15 +4,15 @@ ghost use Prim.Native.Nat.{ℕ, _+_, _-_, _<_, _≤_};
 ghost use lib.ListN.{getD, length};
 ghost use Rattle.market.specs.Market.{earnedByGrower};
 ghost use Rattle.market.specs.declared.Deal.the-variants as Deal;
-ghost use Rattle.marker.specs.View.{quantityOf, pilotHoursOf, ticketOf, settlementOf};
+ghost use Rattle.tables.specs.View.{quantityOf, pilotHoursOf, ticketOf, settlementOf};
 ghost use Rattle.grid.specs.Fill.{FilledRow};
 ghost use Rattle.marker.specs.Tables.{nobody, GrowerIn, PilotIn};
 use crate::Party;
-use crate::Quantity;
 use crate::party_hours::left;
 use crate::party_hours::used;
-use crate::tables::growers;
-use crate::tables::quantity_at;
+use tables::Quantity;
+use tables::growers;
+use tables::quantity_within;
 
 // A quantity of grower i with each of m pilots, and of pilot j with each of n growers.
 pub(crate) fn of_grower(list: &[u16], quantity: Quantity, i: usize, m: usize) -> [u16; 16]
@@ -21,7 +21,7 @@ pub(crate) fn of_grower(list: &[u16], quantity: Quantity, i: usize, m: usize) ->
 {
     let mut r = grid::zero_row();
     for l in 0..m {
-        r[l] = quantity_at(list, quantity, i, l);
+        r[l] = quantity_within(list, quantity, i, l);
     }
     r
 }
@@ -32,7 +32,7 @@ pub(crate) fn of_pilot(list: &[u16], quantity: Quantity, j: usize, n: usize) -> 
 {
     let mut r = grid::zero_row();
     for k in 0..n {
-        r[k] = quantity_at(list, quantity, k, j);
+        r[k] = quantity_within(list, quantity, k, j);
     }
     r
 }
@@ -51,8 +51,8 @@ fn share_of_grower(ticket: &[u16], settlement: &[u16], i: usize, m: usize) -> [u
 {
     let mut r = grid::zero_row();
     for l in 0..m {
-        let joint = quantity_at(ticket, Quantity::JointGain, i, l);
-        r[l] = less(joint, quantity_at(settlement, Quantity::Pay, i, l));
+        let joint = quantity_within(ticket, Quantity::JointGain, i, l);
+        r[l] = less(joint, quantity_within(settlement, Quantity::Pay, i, l));
     }
     r
 }

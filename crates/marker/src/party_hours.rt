@@ -2,12 +2,12 @@
 ghost use mathlib.Core.Path.{_≡_};
 ghost use Prim.Native.Nat.{_+_, _-_, _<_, _≤_};
 ghost use Rattle.grid.specs.First.{first};
-ghost use Rattle.marker.specs.View.{ticketOf, settlementOf};
+ghost use Rattle.tables.specs.View.{ticketOf, settlementOf};
 ghost use Rattle.marker.specs.Tables.{usedIn, growerUsedIn, pilotUsedIn, growerOverIn, pilotOverIn};
-use crate::Quantity;
 use crate::parties::hours_of_pilot;
 use crate::parties::of_grower;
 use crate::parties::of_pilot;
+use tables::Quantity;
 
 // A party's hours over all deals.
 pub(crate) fn used(tariff: [u16; 16], free: [u16; 16], partners: usize) -> u64

@@ -13,7 +13,7 @@ use Rattle.reader.specs.Walk.{Numbers}
 use Rattle.reader.specs.Answer.{unpacked, settlementRead, settlementPacked, reply, kept}
 use Rattle.reader.proofs.Facts.{unpacked-shape, settlement-accepted, settlement-bytes, reply-with-room, kept-with-room}
 use Rattle.reader.proofs.Facts.{reply-refused}
-use Rattle.marker.specs.View.{growersOf, pilotsOf}
+use Rattle.tables.specs.View.{growersOf, pilotsOf}
 use Rattle.marker.specs.declared.Verdict.{Verdict}
 use Rattle.marker.specs.Marked.{marked}
 use Rattle.marker.proofs.Marking.{sound-files-marked}

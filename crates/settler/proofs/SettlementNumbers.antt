@@ -18,7 +18,7 @@ use Rattle.market.proofs.Same.{sound-same}
 use Rattle.market.proofs.Gains.{nothing-blocks-iff}
 use Rattle.reader.proofs.SettlementLaws.{SettlementShape}
 use Rattle.reader.proofs.Facts.{pair-below}
-use Rattle.marker.specs.View.{growersOf, pilotsOf, ticketOf, settlementOf}
+use Rattle.tables.specs.View.{growersOf, pilotsOf, ticketOf, settlementOf}
 use Rattle.method.specs.declared.Flown.{Flown}
 use Rattle.method.specs.Result.{flownAt, settlementIn}
 use Rattle.settler.specs.Listing.{Listed}

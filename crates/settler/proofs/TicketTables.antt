@@ -9,7 +9,7 @@ use lib.ListN.{getD}
 use Rattle.market.specs.Market.{Ticket}
 use Rattle.market.specs.Same.{SameTicket}
 use Rattle.reader.proofs.Facts.{unpacked-shape, unpacked-deal, DealAt}
-use Rattle.marker.specs.View.{growersOf, pilotsOf, ticketOf}
+use Rattle.tables.specs.View.{growersOf, pilotsOf, ticketOf}
 use Rattle.method.specs.declared.Terms.{Terms}
 use Rattle.method.specs.View.{ticket, termsAt}
 use Rattle.settler.specs.FromList.{IsTicket, termsFrom, TermsFrom, Tables}

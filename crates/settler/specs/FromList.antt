@@ -8,7 +8,7 @@ use Rattle.grid.specs.Fill.{FilledRow}
 use Rattle.reader.specs.Walk.{Numbers}
 use Rattle.reader.specs.Answer.{unpacked}
 use Rattle.reader.proofs.SettlementLaws.{SettlementShape}
-use Rattle.marker.specs.View.{growersOf, pilotsOf, growerHoursOf, pilotHoursOf}
+use Rattle.tables.specs.View.{growersOf, pilotsOf, growerHoursOf, pilotHoursOf}
 use Rattle.method.specs.declared.Terms.{Terms}
 use Rattle.method.specs.View.{termsIn}
 use Rattle.settler.specs.Settled.{SoundNumbers}

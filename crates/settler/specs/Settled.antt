@@ -10,7 +10,7 @@ use Rattle.reader.specs.Refusals.{noRoom}
 use Rattle.reader.specs.Walk.{Outcome, Refusal, Numbers}
 use Rattle.reader.specs.Answer.{settlementRead}
 use Rattle.market.specs.Market.{Sound, NobodyGains}
-use Rattle.marker.specs.View.{growersOf, pilotsOf, ticketOf, settlementOf}
+use Rattle.tables.specs.View.{growersOf, pilotsOf, ticketOf, settlementOf}
 
 -- The numbers of a settlement of the ticket xs that nobody can better.
 pub record SoundNumbers (xs numbers : List ℕ) : Type 0 where

@@ -35,8 +35,8 @@ fn sound_list(ticket: &[u16]) -> [u16; 771]
     let flown = method::settle_squares(
         growers,
         pilots,
-        marker::grower_hours(ticket),
-        marker::pilot_hours(ticket),
+        tables::grower_hours(ticket),
+        tables::pilot_hours(ticket),
         terms::terms_square(ticket, growers, pilots),
     );
     listing::listed(growers, pilots, flown)

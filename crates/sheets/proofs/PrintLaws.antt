@@ -16,7 +16,7 @@ use Rattle.reader.specs.Answer.{unpacked, settlementRead, reply}
 use Rattle.reader.proofs.Facts.{unpacked-shape, settlement-shape, settlement-few, reply-with-room, reply-without-room, reply-refused}
 use Rattle.reader.proofs.Facts.{kept-with-room, kept-without-room, written-front}
 use Rattle.marker.specs.declared.Verdict.{Verdict}
-use Rattle.marker.specs.View.{growersOf, pilotsOf, ticketOf, settlementOf}
+use Rattle.tables.specs.View.{growersOf, pilotsOf, ticketOf, settlementOf}
 use Rattle.marker.specs.Verdict.{judged, verdictCount}
 use Rattle.marker.specs.Marked.{marked}
 use Rattle.settler.specs.Settled.{SettledIn, Settled}

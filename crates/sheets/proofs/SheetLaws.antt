@@ -13,11 +13,11 @@ use Rattle.grid.proofs.Places.{prod-small}
 use Rattle.market.specs.declared.Deal.the-variants.{Tariff, Free}
 use Rattle.market.specs.Market.{Ticket, Settlement}
 use Rattle.reader.proofs.Facts.{unpacked-shape, unpacked-deal, settlement-shape}
-use Rattle.marker.specs.declared.Quantity.{Quantity}
-use Rattle.marker.specs.declared.Quantity.the-variants.{TariffCap, TariffGain, TariffPay, JointGain}
-use Rattle.marker.specs.declared.Quantity.the-variants.{TariffHours, FreeHours, Pay}
+use Rattle.tables.specs.declared.Quantity.{Quantity}
+use Rattle.tables.specs.declared.Quantity.the-variants.{TariffCap, TariffGain, TariffPay, JointGain}
+use Rattle.tables.specs.declared.Quantity.the-variants.{TariffHours, FreeHours, Pay}
 use Rattle.marker.specs.declared.Verdict.{Verdict}
-use Rattle.marker.specs.View.{growersOf, pilotsOf, quantityOf, ticketOf, settlementOf}
+use Rattle.tables.specs.View.{growersOf, pilotsOf, quantityOf, ticketOf, settlementOf}
 use Rattle.marker.specs.Verdict.{judged, verdictCount}
 use Rattle.marker.specs.Marked.{marked}
 use Rattle.marker.proofs.Marking.{sound-files-marked}

@@ -6,7 +6,7 @@ use mathlib.Core.List.{List}
 use lib.ListN.{length}
 use Rattle.reader.specs.Walk.{Outcome, Numbers}
 use Rattle.reader.specs.Answer.{unpacked, settlementRead}
-use Rattle.marker.specs.View.{growersOf, pilotsOf, ticketOf, settlementOf}
+use Rattle.tables.specs.View.{growersOf, pilotsOf, ticketOf, settlementOf}
 use Rattle.marker.specs.Verdict.{judged, verdictCount}
 use Rattle.settler.specs.Settled.{SoundNumbers}
 use Rattle.sheets.specs.Writing.{pageBytes, Wrote}

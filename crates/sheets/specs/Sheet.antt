@@ -6,7 +6,7 @@ use mathlib.Core.Bool.{cond, _&&_}
 use lib.Dec.{eqb}
 use Rattle.market.specs.declared.Deal.the-variants.{Tariff, Free}
 use Rattle.market.specs.Market.{Ticket, Settlement}
-use Rattle.marker.specs.View.{growersOf, pilotsOf, ticketOf, settlementOf}
+use Rattle.tables.specs.View.{growersOf, pilotsOf, ticketOf, settlementOf}
 use Rattle.marker.specs.Verdict.{judged, verdictCount}
 use Rattle.sheets.specs.Lines.{line}
 

@@ -7,7 +7,7 @@ use lib.ListN.{length}
 use Rattle.reader.specs.declared.Reply.{Reply}
 use Rattle.reader.specs.Walk.{Outcome, Refusal, Numbers}
 use Rattle.reader.specs.Answer.{settlementRead, reply, kept}
-use Rattle.marker.specs.View.{growersOf, pilotsOf}
+use Rattle.tables.specs.View.{growersOf, pilotsOf}
 use Rattle.settler.specs.Settled.{SoundNumbers}
 use Rattle.sheets.specs.Sheet.{sheetText, refusedText}
 

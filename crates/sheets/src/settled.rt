@@ -12,8 +12,8 @@ use crate::lines::amounts;
 use crate::lines::counted;
 use crate::lines::word;
 use crate::pairs::pair_lines;
-use marker::Quantity;
 use marker::Verdict;
+use tables::Quantity;
 
 fn header(page: &mut [u8; 8216], growers: u16, pilots: u16) -> usize
     requires { ⌜ (growers ≤ 16) × (pilots ≤ 16) ⌝ }
@@ -46,12 +46,12 @@ fn lines_between(page: &mut [u8; 8216], at: usize, ticket: &[u16], settlement: &
         at,
         grid::index(grid::entry(ticket, 1)),
         grid::index(grid::entry(ticket, 2)),
-        marker::square(settlement, Quantity::TariffHours),
-        marker::square(ticket, Quantity::TariffGain),
-        marker::square(ticket, Quantity::TariffPay),
-        marker::square(settlement, Quantity::FreeHours),
-        marker::square(ticket, Quantity::JointGain),
-        marker::square(settlement, Quantity::Pay),
+        tables::square(settlement, Quantity::TariffHours),
+        tables::square(ticket, Quantity::TariffGain),
+        tables::square(ticket, Quantity::TariffPay),
+        tables::square(settlement, Quantity::FreeHours),
+        tables::square(ticket, Quantity::JointGain),
+        tables::square(settlement, Quantity::Pay),
     )
 }
 

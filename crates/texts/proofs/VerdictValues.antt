@@ -18,7 +18,7 @@ use Rattle.marker.specs.declared.Verdict.the-variants.{Refused, Sound, TariffOv
 use Rattle.marker.specs.declared.Verdict.the-variants.{Idle, Blocks}
 use Rattle.market.specs.declared.Deal.{Deal}
 use Rattle.market.specs.declared.Deal.the-variants.{Tariff, Free}
-use Rattle.marker.specs.View.{growersOf, pilotsOf, ticketOf, settlementOf}
+use Rattle.tables.specs.View.{growersOf, pilotsOf, ticketOf, settlementOf}
 use Rattle.marker.specs.Verdict.{walk, pairs, byPair, dealAt, overCap, idle, growerOver, pilotOver, pairVerdict, dealVerdict}
 use Rattle.marker.specs.Verdict.{pairFaultAt, dealFaultAt, dealVerdictAt, dealsJudged, hoursJudged, judged}
 use Rattle.marker.specs.Marked.{settlementMarked, ticketMarked, marked}

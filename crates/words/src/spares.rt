@@ -1,6 +1,6 @@
 // The cheapest spare of a party for a deal: a free hour, which is worth nothing, or an hour of another deal.
-use marker::Quantity;
 use market::Deal;
+use tables::Quantity;
 
 pub(crate) enum Spare {
     Nothing,
@@ -109,17 +109,17 @@ pub(crate) fn of_grower(
     j: usize,
     deal: Deal,
 ) -> Spare {
-    let by_tariff = marker::square(settlement, Quantity::TariffHours);
-    let by_free = marker::square(settlement, Quantity::FreeHours);
-    let hours = grid::wide(at(marker::grower_hours(ticket), i));
+    let by_tariff = tables::square(settlement, Quantity::TariffHours);
+    let by_free = tables::square(settlement, Quantity::FreeHours);
+    let hours = grid::wide(at(tables::grower_hours(ticket), i));
     let after_tariff = left(hours, grid::row_sum(by_tariff, i, 16));
-    let pay = row(marker::square(settlement, Quantity::Pay), i);
+    let pay = row(tables::square(settlement, Quantity::Pay), i);
     cheapest(
         grid::row_sum(by_free, i, 16) < after_tariff,
         without(row(by_tariff, i), is_tariff(deal), j),
         without(row(by_free, i), !is_tariff(deal), j),
-        row(marker::square(ticket, Quantity::TariffGain), i),
-        less(row(marker::square(ticket, Quantity::JointGain), i), pay),
+        row(tables::square(ticket, Quantity::TariffGain), i),
+        less(row(tables::square(ticket, Quantity::JointGain), i), pay),
     )
 }
 
@@ -131,15 +131,15 @@ pub(crate) fn of_pilot(
     j: usize,
     deal: Deal,
 ) -> Spare {
-    let by_tariff = marker::square(settlement, Quantity::TariffHours);
-    let by_free = marker::square(settlement, Quantity::FreeHours);
-    let hours = grid::wide(at(marker::pilot_hours(ticket), j));
+    let by_tariff = tables::square(settlement, Quantity::TariffHours);
+    let by_free = tables::square(settlement, Quantity::FreeHours);
+    let hours = grid::wide(at(tables::pilot_hours(ticket), j));
     let after_tariff = left(hours, grid::col_sum(by_tariff, j, 16));
     cheapest(
         grid::col_sum(by_free, j, 16) < after_tariff,
         without(column(by_tariff, j), is_tariff(deal), i),
         without(column(by_free, j), !is_tariff(deal), i),
-        column(marker::square(ticket, Quantity::TariffPay), j),
-        column(marker::square(settlement, Quantity::Pay), j),
+        column(tables::square(ticket, Quantity::TariffPay), j),
+        column(tables::square(settlement, Quantity::Pay), j),
     )
 }

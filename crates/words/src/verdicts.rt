@@ -6,10 +6,10 @@ use files::counted;
 use files::end_line;
 use files::say;
 use libc::STDOUT_FILENO;
-use marker::Quantity;
 use marker::Verdict;
 use market::Deal;
 use reader::Reply;
+use tables::Quantity;
 
 fn refusal_words(fd: i32, why: u8) {
     match why {
@@ -127,11 +127,11 @@ fn gains(ticket: &[u16], settlement: &[u16], i: usize, j: usize, deal: Deal) {
     say(STDOUT_FILENO, b"an hour more earns them");
     match deal {
         Deal::Tariff => {
-            earned(marker::square(ticket, Quantity::TariffGain), i, j, b" ");
-            earned(marker::square(ticket, Quantity::TariffPay), i, j, b" and ");
+            earned(tables::square(ticket, Quantity::TariffGain), i, j, b" ");
+            earned(tables::square(ticket, Quantity::TariffPay), i, j, b" and ");
         }
         Deal::Free => {
-            earned(marker::square(ticket, Quantity::JointGain), i, j, b" ");
+            earned(tables::square(ticket, Quantity::JointGain), i, j, b" ");
             say(STDOUT_FILENO, b" together");
         }
     }

@@ -4,7 +4,7 @@ use mathlib.Core.Path.{_≡_, sym, _∙_}
 use native.Mathlib.Omega.{arith}
 use Rattle.reader.specs.Walk.{Numbers}
 use Rattle.reader.specs.Answer.{settlementRead}
-use Rattle.marker.specs.View.{growersOf, pilotsOf}
+use Rattle.tables.specs.View.{growersOf, pilotsOf}
 use Rattle.marker.proofs.Marking.{refused-answer, answer-is, judged-answer}
 use borrow.Author.Needs.{needs}
 use Rattle.marker.proofs.mark_against.Statement.{statement}

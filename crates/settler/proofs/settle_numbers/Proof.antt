@@ -3,7 +3,7 @@
 use mathlib.Core.Path.{_≡_, _∙_}
 use native.Mathlib.Omega.{arith}
 use Rattle.reader.proofs.Facts.{unpacked-shape}
-use Rattle.marker.specs.View.{growersOf, pilotsOf}
+use Rattle.tables.specs.View.{growersOf, pilotsOf}
 use Rattle.settler.proofs.Answering.{room-answers, written-answers}
 use borrow.Author.Needs.{needs}
 use Rattle.settler.proofs.settle_numbers.Statement.{statement}

@@ -3,7 +3,7 @@
 use Prim.Native.Nat.{_≤_}
 use mathlib.Core.Path.{_≡_, _∙_}
 use native.Mathlib.Omega.{arith}
-use Rattle.marker.specs.View.{growersOf, pilotsOf}
+use Rattle.tables.specs.View.{growersOf, pilotsOf}
 use Rattle.settler.specs.FromList.{Tables}
 use Rattle.settler.proofs.TicketTables.{few-growers, few-pilots, tables-same}
 use Rattle.settler.proofs.SettlementNumbers.{sound-front}

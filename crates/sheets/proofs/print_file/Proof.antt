@@ -4,7 +4,7 @@ use mathlib.Core.Path.{_≡_, sym, _∙_}
 use borrow.Author.Needs.{needs}
 use Rattle.reader.specs.Walk.{Numbers}
 use Rattle.reader.specs.Answer.{settlementRead}
-use Rattle.marker.specs.View.{growersOf, pilotsOf}
+use Rattle.tables.specs.View.{growersOf, pilotsOf}
 use Rattle.marker.proofs.Marking.{answer-is}
 use Rattle.sheets.proofs.PrintLaws.{file-not-refused, read-together, printed-settled}
 use Rattle.sheets.proofs.print_file.Statement.{statement}

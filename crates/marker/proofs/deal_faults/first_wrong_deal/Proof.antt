@@ -5,7 +5,7 @@ use native.Mathlib.Omega.{arith}
 use Rattle.grid.specs.First.{none}
 use Rattle.grid.proofs.FirstPlaces.{none-more, none-le, first-is}
 use Rattle.grid.proofs.Places.{row-next, row-within}
-use Rattle.marker.specs.View.{ticketOf, settlementOf}
+use Rattle.tables.specs.View.{ticketOf, settlementOf}
 use Rattle.marker.specs.Verdict.{dealFaultAt}
 use Rattle.marker.proofs.Views.{deal-there}
 use borrow.Author.Needs.{needs}

@@ -3,7 +3,7 @@ use Prim.Native.Nat.{ℕ, _+_, _/_, _%_}
 use mathlib.Core.Path.{ap, _∙_}
 use native.Mathlib.Omega.{arith}
 use Rattle.grid.proofs.Places.{Within, within, prod-small}
-use Rattle.marker.specs.View.{ticketOf, settlementOf}
+use Rattle.tables.specs.View.{ticketOf, settlementOf}
 use Rattle.marker.specs.Verdict.{dealAt, dealVerdict}
 use Rattle.marker.proofs.Views.{verdict-there}
 use borrow.Author.Needs.{needs}

@@ -1,12 +1,27 @@
 -- `marker::judge` meets its contract: a place before the end is the first pair at fault; else hours and deals are judged.
+use Prim.Native.Nat.{min}
 use mathlib.Core.Path.{_∙_}
 use native.Mathlib.Omega.{arith}
-use Rattle.marker.specs.View.{ticketOf, settlementOf}
+use Rattle.tables.specs.View.{ticketOf, settlementOf}
+use Rattle.tables.specs.Pairs.{PairsOf}
+use Rattle.tables.proofs.Making.{pairs-as}
 use Rattle.marker.proofs.Views.{first-pair, pair-verdict}
 use Rattle.marker.proofs.Verdicts.{pair-judged, pairs-judged}
 use borrow.Author.Needs.{needs}
 use Rattle.marker.proofs.judging.judge.Statement.{statement}
 use Rattle.marker.proofs.judging.judge.Tie as tie
+
+-- the whole square is filled, since there are at most 16 growers and pilots
+filled : (c : tie.After-pair-square) →
+    let a = c .before .before .before .before .before .args in
+    PairsOf (ticketOf (a .ticket .now)) (settlementOf (a .settlement .now)) (c .before .before .growers .result) (c .before .pilots .result)
+    (c .pair-square .result)
+filled c =
+    let a = c .before .before .before .before .before .args in
+    let n = c .before .before .growers .result in
+    let m = c .before .pilots .result in
+    pairs-as (ticketOf (a .ticket .now)) (settlementOf (a .settlement .now)) (min 16 n) (min 16 m) n m (c .pair-square .result)
+    (omega arith) (omega arith) (c .pair-square .ensures)
 
 judge-hours-requires : tie.Need-judge-hours-requires
 judge-hours-requires c κs = (
@@ -16,7 +31,7 @@ judge-hours-requires c κs = (
     fewGrowers = omega arith;
     fewPilots = omega arith;
   },
-  c .before .before .before .pair-square .ensures,
+  filled (c .before .before .before),
 )
 
 returns : tie.Need-returns
@@ -27,7 +42,7 @@ returns c =
     let n = c .before .before .before .before .before .before .growers .result in
     let m = c .before .before .before .before .before .pilots .result in
     let square = c .before .before .before .before .pair-square .result in
-    let is = c .before .before .before .before .pair-square .ensures in
+    let is = filled (c .before .before .before .before) in
     c .pair-verdict-at .ensures
     ∙ pair-verdict t x n m square is (c .before .before .before .first-wrong-pair .result) (omega arith)
     ∙ pair-judged (a .ticket .now) x n m (c .before .before .before .before .before .before .growers .ensures .0) (c .before .before .before .before .before .pilots .ensures .0) _
@@ -42,7 +57,7 @@ returns-2 c =
     let m = c .before .before .before .before .before .pilots .result in
     c .judge-hours .ensures
     ∙ pairs-judged (a .ticket .now) x n m (c .before .before .before .before .before .before .growers .ensures .0) (c .before .before .before .before .before .pilots .ensures .0) _
-    (c .before .before .before .first-wrong-pair .ensures ∙ first-pair t x n m (c .before .before .before .before .pair-square .result) (c .before .before .before .before .pair-square .ensures)) (omega arith)
+    (c .before .before .before .first-wrong-pair .ensures ∙ first-pair t x n m (c .before .before .before .before .pair-square .result) (filled (c .before .before .before .before))) (omega arith)
 
 pub judge-spec : {M : Type 1} → statement M
 judge-spec =

@@ -1,7 +1,7 @@
 -- `marker::judge_deals` meets its contract: a place before the end is the first deal at fault, and the end says that there is none.
 use mathlib.Core.Path.{_∙_}
 use native.Mathlib.Omega.{arith}
-use Rattle.marker.specs.View.{settlementOf}
+use Rattle.tables.specs.View.{settlementOf}
 use Rattle.marker.proofs.Verdicts.{deal-judged, deals-judged}
 use borrow.Author.Needs.{needs}
 use Rattle.marker.proofs.judging.judge_deals.Statement.{statement}

@@ -1,6 +1,6 @@
 -- `marker::judge_hours` meets its contract: growers first, then pilots, then deals.
 use mathlib.Core.Path.{_∙_}
-use Rattle.marker.specs.View.{settlementOf}
+use Rattle.tables.specs.View.{settlementOf}
 use Rattle.marker.proofs.Verdicts.{grower-judged, pilot-judged, hours-judged}
 use borrow.Author.Needs.{needs}
 use Rattle.marker.proofs.judging.judge_hours.Statement.{statement}

@@ -1,7 +1,7 @@
 -- `marker::all_pilots` meets its contract: the list is filled pilot by pilot.
 use Prim.Native.Nat.{_-_, _≤_}
 use native.Mathlib.Omega.{arith}
-use Rattle.marker.specs.View.{ticketOf, settlementOf}
+use Rattle.tables.specs.View.{ticketOf, settlementOf}
 use Rattle.marker.specs.Tables.{nobody, PilotIn}
 use Rattle.grid.proofs.Sixteens.{Made, made-start, made-put, made-all}
 use borrow.Author.Needs.{needs}

@@ -1,6 +1,6 @@
 -- `marker::grower_at` meets its contract: its rows are the party's, by `party-made`.
 use Rattle.market.specs.Market.{earnedByGrower}
-use Rattle.marker.specs.View.{ticketOf, settlementOf}
+use Rattle.tables.specs.View.{ticketOf, settlementOf}
 use Rattle.marker.proofs.PartyRows.{party-made}
 use borrow.Author.Needs.{needs}
 use Rattle.marker.proofs.parties.grower_at.Statement.{statement}

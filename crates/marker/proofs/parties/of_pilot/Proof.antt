@@ -1,7 +1,9 @@
 -- `marker::of_pilot` meets its contract: the row is filled number by number.
 use Prim.Native.Nat.{_-_, _≤_}
+use mathlib.Core.Path.{_∙_}
 use native.Mathlib.Omega.{arith}
-use Rattle.marker.specs.View.{quantityOf}
+use Rattle.tables.specs.View.{quantityOf}
+use Rattle.tables.proofs.Filling.{inside-is}
 use Rattle.grid.specs.Fill.{FilledRow}
 use Rattle.grid.proofs.FilledRows.{row-start, row-put, row-as}
 use borrow.Author.Needs.{needs}
@@ -18,7 +20,12 @@ loop-holds : tie.Need-loop-holds Inv-loop μ-loop
 loop-holds c = (omega arith, row-start _ _ (c .zero-row .ensures .0) (c .zero-row .ensures .1))
 
 loop-again : tie.Need-loop-again Inv-loop μ-loop
-loop-again c = (omega arith, row-put _ _ _ _ (omega arith) (omega arith) (c .quantity-at .ensures) (c .before .before .loop .inv .1))
+loop-again c =
+    let a = c .before .before .before .before .before .args in (
+      omega arith,
+      row-put _ _ _ _ (omega arith) (omega arith)
+          (c .quantity-within .ensures ∙ inside-is (a .quantity) (a .list .now) (c .before .before .loop .k) (a .j) (omega arith) (omega arith)) (c .before .before .loop .inv .1),
+    )
 
 returns : tie.Need-returns Inv-loop μ-loop
 returns c = row-as _ _ _ _ (omega arith) (c .before .loop .inv .1)

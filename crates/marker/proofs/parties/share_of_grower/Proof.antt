@@ -3,7 +3,9 @@ use Prim.Native.Nat.{_-_, _≤_}
 use native.Mathlib.Omega.{arith}
 use Rattle.market.specs.Market.{earnedByGrower}
 use Rattle.market.specs.declared.Deal.the-variants.{Free}
-use Rattle.marker.specs.View.{ticketOf, settlementOf}
+use Rattle.tables.specs.View.{ticketOf, settlementOf}
+use Rattle.tables.specs.declared.Quantity.the-variants.{JointGain, Pay}
+use Rattle.tables.proofs.Filling.{inside-is}
 use Rattle.grid.specs.Fill.{FilledRow}
 use Rattle.grid.proofs.FilledRows.{row-start, row-put, row-as}
 use borrow.Author.Needs.{needs}
@@ -20,7 +22,14 @@ loop-holds : tie.Need-loop-holds Inv-loop μ-loop
 loop-holds c = (omega arith, row-start _ _ (c .zero-row .ensures .0) (c .zero-row .ensures .1))
 
 loop-again : tie.Need-loop-again Inv-loop μ-loop
-loop-again c = (omega arith, row-put _ _ _ _ (omega arith) (omega arith) (omega arith) (c .before .before .before .before .loop .inv .1))
+loop-again c =
+    let a = c .before .before .before .before .before .before .before .before .args in
+    let l = c .before .before .before .before .loop .l in
+    let joint = inside-is JointGain (a .ticket .now) (a .i) l (omega arith) (omega arith) in
+    let pay = inside-is Pay (a .settlement .now) (a .i) l (omega arith) (omega arith) in (
+      omega arith,
+      row-put _ _ _ _ (omega arith) (omega arith) (omega (arith, joint, pay)) (c .before .before .before .before .loop .inv .1),
+    )
 
 returns : tie.Need-returns Inv-loop μ-loop
 returns c = row-as _ _ _ _ (omega arith) (c .before .loop .inv .1)

@@ -5,7 +5,7 @@ use native.Mathlib.Omega.{arith}
 use borrow.Author.Tests.{lt-ltb, le-ltb}
 use Rattle.grid.specs.First.{none}
 use Rattle.grid.proofs.FirstPlaces.{none-zero, none-more, none-le, first-is}
-use Rattle.marker.specs.View.{ticketOf, settlementOf}
+use Rattle.tables.specs.View.{ticketOf, settlementOf}
 use Rattle.marker.specs.Tables.{pilotOverIn}
 use Rattle.marker.proofs.PartyRows.{over-there}
 use borrow.Author.Needs.{needs}

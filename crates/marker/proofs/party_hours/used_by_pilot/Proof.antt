@@ -1,5 +1,5 @@
 -- `marker::used_by_pilot` meets its contract: the sum over rows is the sum over deals, by `used-is`.
-use Rattle.marker.specs.View.{settlementOf}
+use Rattle.tables.specs.View.{settlementOf}
 use Rattle.marker.proofs.PartyRows.{used-is}
 use borrow.Author.Needs.{needs}
 use Rattle.marker.proofs.party_hours.used_by_pilot.Statement.{statement}

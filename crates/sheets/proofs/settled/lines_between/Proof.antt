@@ -2,7 +2,7 @@
 -- Assumes nothing.
 use mathlib.Core.Path.{_≡_, _∙_}
 use borrow.Author.Needs.{needs}
-use Rattle.marker.specs.View.{growersOf, pilotsOf}
+use Rattle.tables.specs.View.{growersOf, pilotsOf}
 use Rattle.sheets.proofs.SheetLaws.{Squares, lines-fit, lines-written}
 use Rattle.sheets.proofs.settled.lines_between.Statement.{statement}
 use Rattle.sheets.proofs.settled.lines_between.Tie as tie

@@ -3,14 +3,16 @@
 -- a settlement with three numbers for each pair.
 -- Assumes nothing.
 use Prim.Native.Nat.{ℕ, _+_, _*_}
+use mathlib.Core.Bool.{cond}
 use mathlib.Core.List.{List}
+use lib.Dec.{ltb}
 use lib.ListN.{getD}
 use Rattle.market.specs.declared.Deal.{Deal}
 use Rattle.market.specs.declared.Deal.the-variants.{Tariff, Free}
 use Rattle.market.specs.Market.{Ticket, Settlement}
-use Rattle.marker.specs.declared.Quantity.{Quantity}
-use Rattle.marker.specs.declared.Quantity.the-variants.{TariffCap, TariffGain, TariffPay, FreeCap, JointGain}
-use Rattle.marker.specs.declared.Quantity.the-variants.{TariffHours, FreeHours, Pay}
+use Rattle.tables.specs.declared.Quantity.{Quantity}
+use Rattle.tables.specs.declared.Quantity.the-variants.{TariffCap, TariffGain, TariffPay, FreeCap, JointGain}
+use Rattle.tables.specs.declared.Quantity.the-variants.{TariffHours, FreeHours, Pay}
 
 -- how many growers and how many pilots there are
 abbrev pub growersOf : List ℕ → ℕ
@@ -36,6 +38,10 @@ placeOf Pay n = pairPlace 3 3 2
 
 abbrev pub quantityOf : Quantity → List ℕ → ℕ → ℕ → ℕ
 quantityOf q list i j = getD list (placeOf q (growersOf list) (pilotsOf list) i j) 0
+
+-- the same in a square of 16 by 16, and 0 outside of it
+abbrev pub quantityWithin : Quantity → List ℕ → ℕ → ℕ → ℕ
+quantityWithin q list i j = cond (ltb i 16) (cond (ltb j 16) (quantityOf q list i j) 0) 0
 
 -- everybody's own hours
 abbrev pub growerHoursOf : List ℕ → ℕ → ℕ

@@ -1,9 +1,9 @@
--- `marker::pilot_hours` meets its contract: they stand after the hours of the growers.
+-- `tables::pilot_hours` meets its contract: they stand after the hours of the growers.
 use native.Mathlib.Omega.{arith}
-use Rattle.marker.proofs.PartyRows.{pilot-row}
+use Rattle.tables.proofs.Filling.{pilot-row}
 use borrow.Author.Needs.{needs}
-use Rattle.marker.proofs.tables.pilot_hours.Statement.{statement}
-use Rattle.marker.proofs.tables.pilot_hours.Tie as tie
+use Rattle.tables.proofs.tables.pilot_hours.Statement.{statement}
+use Rattle.tables.proofs.tables.pilot_hours.Tie as tie
 
 returns : tie.Need-returns
 returns c = pilot-row (c .before .before .before .before .args .ticket .now) _ _ _ (omega arith) (omega arith) (c .row .ensures)

@@ -1,13 +1,13 @@
--- `marker::pair_row` meets its contract: the row is filled pair by pair.
+-- `tables::pair_row` meets its contract: the row is filled pair by pair.
 use mathlib.Core.Path.{_≡_}
 use Prim.Native.Nat.{_-_, _≤_}
 use native.Mathlib.Omega.{arith}
-use Rattle.marker.specs.View.{ticketOf, settlementOf}
-use Rattle.marker.specs.Tables.{noPair, pairOf}
+use Rattle.tables.specs.View.{ticketOf, settlementOf}
+use Rattle.tables.specs.Pairs.{noPair, pairOf}
 use Rattle.grid.proofs.Sixteens.{Made, made-start, made-put, made-all}
 use borrow.Author.Needs.{needs}
-use Rattle.marker.proofs.pairs.pair_row.Statement.{statement}
-use Rattle.marker.proofs.pairs.pair_row.Tie as tie
+use Rattle.tables.proofs.pairs.pair_row.Statement.{statement}
+use Rattle.tables.proofs.pairs.pair_row.Tie as tie
 
 abbrev Inv-loop : tie.InvT-loop
 Inv-loop ticket settlement i m row₀ j₀ row j = (j ≤ m) × Made noPair (λ k q. q ≡ pairOf (ticketOf ticket) (settlementOf settlement) i k) j row

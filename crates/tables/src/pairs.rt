@@ -1,12 +1,13 @@
 // All quantities of pairs, in a square of growers by pilots.
 ghost use mathlib.Core.Path.{_≡_};
-ghost use Prim.Native.Nat.{_<_, _≤_};
+ghost use Prim.Native.Nat.{_<_, _≤_, min};
 ghost use lib.ListN.{length};
-ghost use Rattle.marker.specs.View.{ticketOf, settlementOf};
-ghost use Rattle.marker.specs.Tables.{pairOf, PairsOfGrower, PairsOf};
+ghost use Rattle.tables.specs.View.{ticketOf, settlementOf};
+ghost use Rattle.tables.specs.Pairs.{pairOf, PairsOfGrower, PairsOf};
 use crate::Pair;
 use crate::Quantity;
 use crate::tables::quantity_at;
+use crate::tables::within;
 
 // All quantities of a pair.
 fn pair_at(ticket: &[u16], settlement: &[u16], i: usize, j: usize) -> Pair
@@ -64,19 +65,15 @@ fn pair_row(ticket: &[u16], settlement: &[u16], i: usize, m: usize) -> [Pair; 16
     row
 }
 
-// The pairs of n growers with m pilots.
-pub(crate) fn pair_square(
-    ticket: &[u16],
-    settlement: &[u16],
-    n: usize,
-    m: usize,
-) -> [[Pair; 16]; 16]
-    requires { ⌜ (n ≤ 16) × (m ≤ 16) ⌝ }
-    ensures { λ r. ⌜ PairsOf (ticketOf (now (ticket .entry))) (settlementOf (now (settlement .entry))) n m r ⌝ }
+// The pairs of n growers with m pilots, as far as the square reaches.
+pub fn pair_square(ticket: &[u16], settlement: &[u16], n: usize, m: usize) -> [[Pair; 16]; 16]
+    ensures { λ r. ⌜ PairsOf (ticketOf (now (ticket .entry))) (settlementOf (now (settlement .entry))) (min 16 n) (min 16 m) r ⌝ }
 {
+    let rows = within(n);
+    let columns = within(m);
     let mut pairs = no_pair_rows();
-    for i in 0..n {
-        pairs[i] = pair_row(ticket, settlement, i, m);
+    for i in 0..rows {
+        pairs[i] = pair_row(ticket, settlement, i, columns);
     }
     pairs
 }

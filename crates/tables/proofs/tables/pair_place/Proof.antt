@@ -1,9 +1,9 @@
--- `marker::pair_place` meets its contract: the products are small.
+-- `tables::pair_place` meets its contract: the products are small.
 use Prim.Native.Nat.{ℕ, _+_, _*_, _<_, _≤_}
 use native.Mathlib.Nat.{mul-le-mul}
 use native.Mathlib.Omega.{arith}
-use Rattle.marker.proofs.tables.pair_place.Statement.{statement}
-use Rattle.marker.proofs.tables.pair_place.Tie as tie
+use Rattle.tables.proofs.tables.pair_place.Statement.{statement}
+use Rattle.tables.proofs.tables.pair_place.Tie as tie
 
 row-small : (i m : ℕ) → i < 16 → m < 65536 → i * m ≤ 983025
 row-small i m hi hm = omega (arith, mul-le-mul {n₁ = i} {m₁ = m} {n₂ = 15} {m₂ = 65535} (omega arith) (omega arith))

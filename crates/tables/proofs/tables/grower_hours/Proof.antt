@@ -1,11 +1,11 @@
--- `marker::grower_hours` meets its contract: they stand from place 3 on.
+-- `tables::grower_hours` meets its contract: they stand from place 3 on.
 use Prim.Native.Nat.{min}
 use native.Mathlib.Omega.{arith}
-use Rattle.marker.specs.View.{growersOf}
+use Rattle.tables.specs.View.{growersOf}
 use Rattle.grid.proofs.FilledRows.{row-as}
 use borrow.Author.Needs.{needs}
-use Rattle.marker.proofs.tables.grower_hours.Statement.{statement}
-use Rattle.marker.proofs.tables.grower_hours.Tie as tie
+use Rattle.tables.proofs.tables.grower_hours.Statement.{statement}
+use Rattle.tables.proofs.tables.grower_hours.Tie as tie
 
 returns : tie.Need-returns
 returns c = row-as _ _ (min 16 (growersOf (c .before .before .before .args .ticket .now))) _ (omega arith) (c .row .ensures)

@@ -1,8 +1,8 @@
--- `marker::quantity_at` meets its contract: the number at the pair's place.
-use Rattle.marker.proofs.Filling.{quantity-at}
+-- `tables::quantity_at` meets its contract: the number at the pair's place.
+use Rattle.tables.proofs.Filling.{quantity-at}
 use borrow.Author.Needs.{needs}
-use Rattle.marker.proofs.tables.quantity_at.Statement.{statement}
-use Rattle.marker.proofs.tables.quantity_at.Tie as tie
+use Rattle.tables.proofs.tables.quantity_at.Statement.{statement}
+use Rattle.tables.proofs.tables.quantity_at.Tie as tie
 
 returns : tie.Need-returns
 returns c =

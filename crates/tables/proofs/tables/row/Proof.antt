@@ -1,12 +1,12 @@
--- `marker::row` meets its contract: the row is filled number by number.
+-- `tables::row` meets its contract: the row is filled number by number.
 use Prim.Native.Nat.{_+_, _-_, _≤_}
 use native.Mathlib.Omega.{arith}
 use lib.ListN.{getD}
 use Rattle.grid.specs.Fill.{FilledRow}
 use Rattle.grid.proofs.FilledRows.{row-start, row-put, row-as}
 use borrow.Author.Needs.{needs}
-use Rattle.marker.proofs.tables.row.Statement.{statement}
-use Rattle.marker.proofs.tables.row.Tie as tie
+use Rattle.tables.proofs.tables.row.Statement.{statement}
+use Rattle.tables.proofs.tables.row.Tie as tie
 
 abbrev Inv-loop : tie.InvT-loop
 Inv-loop list from count end r₀ i₀ r i = (i ≤ end) × FilledRow (λ k. getD list (from + k) 0) i r

@@ -1,8 +1,8 @@
--- `marker::place` meets its contract: one arm for each quantity.
+-- `tables::place` meets its contract: one arm for each quantity.
 use native.Mathlib.Omega.{arith}
 use borrow.Author.Needs.{needs}
-use Rattle.marker.proofs.tables.place.Statement.{statement}
-use Rattle.marker.proofs.tables.place.Tie as tie
+use Rattle.tables.proofs.tables.place.Statement.{statement}
+use Rattle.tables.proofs.tables.place.Tie as tie
 
 returns : tie.Need-returns
 returns c = rw (c .before .enum-told .given .1) (c .pair-place .ensures)

@@ -3,12 +3,12 @@ ghost use mathlib.Core.Path.{_≡_};
 ghost use Prim.Native.Nat.{_+_, _*_, _<_, min};
 ghost use lib.ListN.{getD};
 ghost use Rattle.grid.specs.Fill.{Filled};
-ghost use Rattle.marker.specs.View.{growersOf, pilotsOf, pairPlace, placeOf, quantityOf, growerHoursOf, pilotHoursOf};
+ghost use Rattle.tables.specs.View.{growersOf, pilotsOf, pairPlace, placeOf, quantityOf, quantityWithin, growerHoursOf, pilotHoursOf};
 ghost use Rattle.grid.specs.Fill.{FilledRow};
 use crate::Quantity;
 
 // As many of a list's growers, or pilots, as a square has room for.
-fn within(count: usize) -> usize
+pub(crate) fn within(count: usize) -> usize
     ensures { λ r. ⌜ r ≡ min 16 count ⌝ }
 {
     if count < grid::SIDE {
@@ -44,13 +44,13 @@ fn place(quantity: Quantity, n: usize, m: usize, i: usize, j: usize) -> usize
 }
 
 // How many growers, and how many pilots, a list tells of.
-pub(crate) fn growers(list: &[u16]) -> usize
+pub fn growers(list: &[u16]) -> usize
     ensures { λ r. ⌜ (r ≡ growersOf (now (list .entry))) × (r < 65536) ⌝ }
 {
     grid::index(grid::entry(list, 1))
 }
 
-pub(crate) fn pilots(list: &[u16]) -> usize
+pub fn pilots(list: &[u16]) -> usize
     ensures { λ r. ⌜ (r ≡ pilotsOf (now (list .entry))) × (r < 65536) ⌝ }
 {
     grid::index(grid::entry(list, 2))
@@ -64,6 +64,19 @@ pub(crate) fn quantity_at(list: &[u16], quantity: Quantity, i: usize, j: usize) 
     let n = growers(list);
     let m = pilots(list);
     grid::entry(list, place(quantity, n, m, i, j))
+}
+
+// The same on every input: 0 for a pair outside of the square.
+pub fn quantity_within(list: &[u16], quantity: Quantity, i: usize, j: usize) -> u16
+    ensures { λ r. ⌜ r ≡ quantityWithin quantity (now (list .entry)) i j ⌝ }
+{
+    if grid::SIDE <= i {
+        return 0;
+    }
+    if grid::SIDE <= j {
+        return 0;
+    }
+    quantity_at(list, quantity, i, j)
 }
 
 // A quantity of every pair, growers by pilots, as far as the square reaches.

@@ -1,12 +1,12 @@
--- `marker::square` meets its contract: the square is filled row by row.
+-- `tables::square` meets its contract: the square is filled row by row.
 use Prim.Native.Nat.{_-_, _≤_, min}
 use native.Mathlib.Omega.{arith}
 use Rattle.grid.proofs.Filling.{Part, part-start, part-put, part-row, part-end}
-use Rattle.marker.specs.View.{quantityOf, growersOf, pilotsOf}
-use Rattle.marker.proofs.Filling.{filled-as}
+use Rattle.tables.specs.View.{quantityOf, growersOf, pilotsOf}
+use Rattle.tables.proofs.Filling.{filled-as}
 use borrow.Author.Needs.{needs}
-use Rattle.marker.proofs.tables.square.Statement.{statement}
-use Rattle.marker.proofs.tables.square.Tie as tie
+use Rattle.tables.proofs.tables.square.Statement.{statement}
+use Rattle.tables.proofs.tables.square.Tie as tie
 
 abbrev Inv-loop2 : tie.InvT-loop2
 Inv-loop2 list quantity rows columns q₀ i j₀ q j = (j ≤ columns) × Part (quantityOf quantity list) columns i j q

@@ -1,9 +1,9 @@
--- `marker::pair_at` meets its contract: one number for each quantity.
-use Rattle.marker.specs.View.{ticketOf, settlementOf}
-use Rattle.marker.proofs.Views.{pair-made}
+-- `tables::pair_at` meets its contract: one number for each quantity.
+use Rattle.tables.specs.View.{ticketOf, settlementOf}
+use Rattle.tables.proofs.Making.{pair-made}
 use borrow.Author.Needs.{needs}
-use Rattle.marker.proofs.pairs.pair_at.Statement.{statement}
-use Rattle.marker.proofs.pairs.pair_at.Tie as tie
+use Rattle.tables.proofs.pairs.pair_at.Statement.{statement}
+use Rattle.tables.proofs.pairs.pair_at.Tie as tie
 
 returns : tie.Need-returns
 returns c =
