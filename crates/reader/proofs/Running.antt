@@ -1,4 +1,4 @@
--- A run over a source, a number at each turn, for any document and any source: what the loops of the two walks keep,
+-- A run over a source, a number at each turn, for any document and any source: what the loop of the walk keeps,
 -- and that two runs, of the first three numbers and of those that they ask for, make a whole form.
 use mathlib.Core.Path.{_≡_, refl, sym, ap, _∙_}
 use mathlib.Core.Bool.{Bool, true, false, cond}
@@ -11,6 +11,7 @@ use lib.ListN.{length, drop, length-drop, length-append}
 use Rattle.reader.specs.declared.refusals.Document.{Document}
 use Rattle.reader.specs.declared.groups.Got.{Got}
 use Rattle.reader.specs.declared.layout.State.{State}
+use Rattle.reader.specs.declared.scan.SourceKind.{SourceKind}
 use Rattle.reader.specs.declared.scan.Run.{Run}
 use Rattle.reader.specs.declared.Reply.{Reply}
 use Rattle.reader.specs.Refusals.{refusalsOf}
@@ -19,7 +20,8 @@ use Rattle.reader.specs.Walk.{Source, readHead, Taken, Refused, Took, me
 use Rattle.reader.specs.State.{start}
 use Rattle.reader.specs.Layout.{faultIn, afterIn, bodyIn, formOf}
 use Rattle.reader.specs.Answer.{counted}
-use Rattle.reader.specs.Steps.{placed, refusing, taking, begun, unlessFault, stepped, nextRun, goneOn, Ready, Known, closing, Gives}
+use Rattle.reader.specs.Steps.{placed, readOf, refusing, taking, begun, unlessFault, stepped, nextRun, goneOn}
+use Rattle.reader.specs.Steps.{Ready, Known, closing, Gives}
 use Rattle.grid.proofs.Cases.{never}
 use Rattle.reader.proofs.Ends.{EndOf, end-self, end-next, end-trans, end-place, end-length}
 use Rattle.reader.proofs.GroupLaws.{read-rest}
@@ -36,6 +38,10 @@ bytes-ending a x rest e = read-rest groups 0 a x rest e
 pub head-ending : Ending readHead
 head-ending [] x rest e = never cc
 head-ending (y ∷ a) x rest e = let r : rest ≡ a = cc in rw r (end-next a a y (end-self a))
+
+pub source-ending : (source : SourceKind) → Ending (readOf source)
+source-ending SourceKind.Bytes = bytes-ending
+source-ending SourceKind.List = head-ending
 
 pub gives-ending : {read : Source} → Ending read → (a xs b : List ℕ) → Gives read a xs b → EndOf b a
 gives-ending ending a [] b g = rw g (end-self b)

@@ -8,11 +8,12 @@ use lib.ListN.{length, getD, drop}
 use Rattle.reader.specs.declared.refusals.Document.{Document}
 use Rattle.reader.specs.declared.groups.Got.{Got}
 use Rattle.reader.specs.declared.layout.State.{State}
+use Rattle.reader.specs.declared.scan.SourceKind.{SourceKind}
 use Rattle.reader.specs.declared.scan.Run.{Run}
 use Rattle.reader.specs.declared.Reply.{Reply}
 use Rattle.reader.specs.Refusals.{refusalsOf}
 use Rattle.reader.specs.Groups.{Read, Number, Ends, TooLong, Padded, groups, bytes}
-use Rattle.reader.specs.Walk.{Source}
+use Rattle.reader.specs.Walk.{Source, readHead}
 use Rattle.reader.specs.State.{start}
 use Rattle.reader.specs.Layout.{faultIn, afterIn}
 
@@ -22,6 +23,19 @@ placed n (Number x rest) = Got.Number x (n - length rest)
 placed n Ends = Got.Ends
 placed n TooLong = Got.TooLong
 placed n Padded = Got.Padded
+
+-- How a kind of source is read, and which of some bytes and a list it is.
+abbrev pub readOf : SourceKind → Source
+readOf SourceKind.Bytes = bytes
+readOf SourceKind.List = readHead
+
+abbrev pub heldIn : SourceKind → List ℕ → List ℕ → List ℕ
+heldIn SourceKind.Bytes s list = s
+heldIn SourceKind.List s list = list
+
+-- What is got at a place of a source.
+abbrev pub gotAt : SourceKind → List ℕ → ℕ → Got
+gotAt source l at = placed (length l) (readOf source (drop at l))
 
 -- More places than any document has, so that the count of places cannot wrap.
 abbrev pub mostPlaces : ℕ

@@ -16,8 +16,8 @@ use crate::groups::wide16;
 use crate::groups::write;
 use crate::refusals::Document;
 use crate::refusals::NO_ROOM;
+use crate::scan::SourceKind;
 use crate::scan::scan;
-use crate::scan::scan_list;
 
 // Writes the first numbers of bytes that were scanned to the front of a list.
 fn fill(s: &[u8], list: &mut [u16], count: usize)
@@ -64,7 +64,7 @@ pub(crate) fn receive(document: Document, s: &[u8], list: &mut [u16]) -> Reply
     ensures { λ r. ⌜ r ≡ reply (length (now (list .entry))) (form (formOf document) bytes (now (s .entry))) ⌝ }
     ensures { λ r. ⌜ now (list .exit) ≡ kept (now (list .entry)) (form (formOf document) bytes (now (s .entry))) ⌝ }
 {
-    let seen = scan(document, s);
+    let seen = scan(document, SourceKind::Bytes, s, list);
     match seen {
         Reply::Refused { why } => Reply::Refused { why },
         Reply::Done { count } => {
@@ -82,7 +82,7 @@ pub(crate) fn deliver(document: Document, list: &[u16], out: &mut [u8]) -> Reply
     ensures { λ r. ⌜ r ≡ reply (length (now (out .entry))) (packedAs (form (formOf document) readHead (now (list .entry)))) ⌝ }
     ensures { λ r. ⌜ now (out .exit) ≡ kept (now (out .entry)) (packedAs (form (formOf document) readHead (now (list .entry)))) ⌝ }
 {
-    let seen = scan_list(document, list);
+    let seen = scan(document, SourceKind::List, out, list);
     match seen {
         Reply::Refused { why } => Reply::Refused { why },
         Reply::Done { count: _ } => {

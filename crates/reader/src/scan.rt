@@ -2,10 +2,10 @@
 ghost use mathlib.Core.Path.{_≡_};
 ghost use Prim.Native.Nat.{_+_, _<_, _≤_};
 ghost use lib.ListN.{length};
-ghost use Rattle.reader.specs.Groups.{bytes};
-ghost use Rattle.reader.specs.Walk.{readHead, form};
+ghost use Rattle.reader.specs.Walk.{form};
 ghost use Rattle.reader.specs.Layout.{formOf};
-ghost use Rattle.reader.specs.Steps.{Known, Ready, mostPlaces, refusing, begun, stepped, goneOn, closing};
+ghost use Rattle.reader.specs.Steps.{Known, Ready, mostPlaces, heldIn, readOf, gotAt};
+ghost use Rattle.reader.specs.Steps.{refusing, begun, stepped, goneOn, closing};
 ghost use Rattle.reader.specs.Answer.{counted};
 use crate::Reply;
 use crate::groups::Got;
@@ -27,6 +27,13 @@ pub(crate) struct Run {
     pub(crate) why: u8,
     pub(crate) next: usize,
     pub(crate) state: State,
+}
+
+// What a document is read from: bytes or a list. The slice of the other kind is not looked at.
+// One loop serves both: `step` is compiled into its only caller, and a run then stays in registers.
+pub(crate) enum SourceKind {
+    Bytes,
+    List,
 }
 
 // A run at the front of a source.
@@ -82,29 +89,39 @@ fn step(document: Document, s: State, got: Got) -> Run
     }
 }
 
-// A run goes on for `count` numbers of the bytes, unless it is refused.
-fn walk(document: Document, s: &[u8], count: usize, from: Run) -> Run
-    requires { ⌜ Ready (length (now s)) from ⌝ }
-    requires { ⌜ from .state .place + count ≤ mostPlaces ⌝ }
-    ensures { λ r. ⌜ r ≡ goneOn document bytes (now (s .entry)) count from ⌝ }
+// How many places a source has.
+fn length_of(source: SourceKind, s: &[u8], list: &[u16]) -> usize
+    ensures { λ r. ⌜ r ≡ length (heldIn source (now (s .entry)) (now (list .entry))) ⌝ }
 {
-    let mut run = from;
-    for k in 0..count {
-        if run.refused {
-            return run;
-        }
-        let at = run.next;
-        let state = run.state;
-        run = step(document, state, number(s, at));
+    match source {
+        SourceKind::Bytes => s.len(),
+        SourceKind::List => list.len(),
     }
-    run
 }
 
-// `walk` over a list of numbers.
-fn walk_list(document: Document, list: &[u16], count: usize, from: Run) -> Run
-    requires { ⌜ Ready (length (now list)) from ⌝ }
+// The number at a place of a source.
+fn read(source: SourceKind, s: &[u8], list: &[u16], at: usize) -> Got
+    requires { ⌜ at ≤ length (heldIn source (now s) (now list)) ⌝ }
+    ensures { λ r. ⌜ r ≡ gotAt source (heldIn source (now (s .entry)) (now (list .entry))) at ⌝ }
+{
+    match source {
+        SourceKind::Bytes => number(s, at),
+        SourceKind::List => entry(list, at),
+    }
+}
+
+// A run goes on for `count` numbers of a source, unless it is refused.
+fn walk(
+    document: Document,
+    source: SourceKind,
+    s: &[u8],
+    list: &[u16],
+    count: usize,
+    from: Run,
+) -> Run
+    requires { ⌜ Ready (length (heldIn source (now s) (now list))) from ⌝ }
     requires { ⌜ from .state .place + count ≤ mostPlaces ⌝ }
-    ensures { λ r. ⌜ r ≡ goneOn document readHead (now (list .entry)) count from ⌝ }
+    ensures { λ r. ⌜ r ≡ goneOn document (readOf source) (heldIn source (now (s .entry)) (now (list .entry))) count from ⌝ }
 {
     let mut run = from;
     for k in 0..count {
@@ -113,7 +130,7 @@ fn walk_list(document: Document, list: &[u16], count: usize, from: Run) -> Run
         }
         let at = run.next;
         let state = run.state;
-        run = step(document, state, entry(list, at));
+        run = step(document, state, read(source, s, list, at));
     }
     run
 }
@@ -136,24 +153,13 @@ fn close(document: Document, length: usize, count: usize, run: Run) -> Reply
     }
 }
 
-// Reads and checks the bytes of a whole document: the first three numbers, those that they ask for, and nothing after them.
-pub(crate) fn scan(document: Document, s: &[u8]) -> Reply
-    ensures { λ r. ⌜ r ≡ counted (form (formOf document) bytes (now (s .entry))) ⌝ }
+// Reads and checks a whole document: the first three numbers, those that they ask for, and nothing after them.
+pub(crate) fn scan(document: Document, source: SourceKind, s: &[u8], list: &[u16]) -> Reply
+    ensures { λ r. ⌜ r ≡ counted (form (formOf document) (readOf source) (heldIn source (now (s .entry)) (now (list .entry)))) ⌝ }
 {
-    let head = walk(document, s, HEAD, begun());
+    let head = walk(document, source, s, list, HEAD, begun());
     let state = head.state;
     let count = body_of(document, state);
-    let body = walk(document, s, count, head);
-    close(document, s.len(), count, body)
-}
-
-// `scan` over a list of numbers.
-pub(crate) fn scan_list(document: Document, list: &[u16]) -> Reply
-    ensures { λ r. ⌜ r ≡ counted (form (formOf document) readHead (now (list .entry))) ⌝ }
-{
-    let head = walk_list(document, list, HEAD, begun());
-    let state = head.state;
-    let count = body_of(document, state);
-    let body = walk_list(document, list, count, head);
-    close(document, list.len(), count, body)
+    let body = walk(document, source, s, list, count, head);
+    close(document, length_of(source, s, list), count, body)
 }

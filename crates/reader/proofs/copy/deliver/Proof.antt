@@ -11,27 +11,28 @@ use Rattle.reader.proofs.copy.deliver.Tie as tie
 
 -- what the check says where it refused nothing
 accepted : (c : tie.After-enum-told) →
-    Packs (c .before .before .before .before .before .args .document) (c .before .before .before .before .before .args .list .now)
-accepted c = packs _ _ _ (sym (c .enum-told .given .1) ∙ c .before .before .scan-list .ensures)
+    Packs (c .before .before .before .before .before .before .args .document)
+    (c .before .before .before .before .before .before .args .list .now)
+accepted c = packs _ _ _ (sym (c .enum-told .given .1) ∙ c .before .before .scan .ensures)
 
 size-all-requires : tie.Need-size-all-requires
 size-all-requires c κs = accepted c .short
 
 returns : tie.Need-returns
 returns c =
-    let s = c .before .before .before .before .before .before .before in
+    let s = c .before .before .before .before .before .before .before .before in
     pack-short (s .args .document) (s .args .list .now) (s .args .out .now) (accepted (c .before .before))
     (omega (arith, c .before .size-all .ensures, c .if1 .taken))
 
 returns-2 : tie.Need-returns-2
 returns-2 c =
-    let s = c .before .before .before .before .before .before in
+    let s = c .before .before .before .before .before .before .before in
     pack-refused (form (formOf (s .args .document)) readHead (s .args .list .now)) (s .args .out .now) _
-    (sym (c .before .seen .given .1) ∙ c .before .before .before .scan-list .ensures)
+    (sym (c .before .seen .given .1) ∙ c .before .before .before .scan .ensures)
 
 returns-3 : tie.Need-returns-3
 returns-3 c =
-    let s = c .before .before .before .before .before .before .before .before .before .before .before in
+    let s = c .before .before .before .before .before .before .before .before .before .before .before .before in
     pack-done (s .args .document) (s .args .list .now) (s .args .out .now) _ _
     (accepted (c .before .before .before .before .before .before))
     (c .before .before .before .before .before .size-all .ensures)
@@ -46,8 +47,10 @@ deliver-spec =
     (λ c. search needs)
     (λ c. search needs)
     size-all-requires
+    (λ c. search needs)
     returns
     (λ c κs. search needs)
+    (λ c. search needs)
     returns-2
     (λ c. search needs)
     returns-3)

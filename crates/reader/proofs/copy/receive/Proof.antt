@@ -10,26 +10,26 @@ use Rattle.reader.proofs.copy.receive.Tie as tie
 
 returns : tie.Need-returns
 returns c =
-    let s = c .before .before .before .before .before .before .before in
+    let s = c .before .before .before .before .before .before .before .before in
     reply-short (form (formOf (s .args .document)) bytes (s .args .s .now)) (s .args .list .now) _
     (sym (c .before .before .seen2 .given .1) ∙ c .before .before .before .before .scan .ensures)
     (c .if1 .taken)
 
 fill-requires : tie.Need-fill-requires
 fill-requires c κs =
-    let s = c .before .before .before .before .before .before .before .before in
+    let s = c .before .before .before .before .before .before .before .before .before in
     let e = sym (c .before .before .before .seen2 .given .1) ∙ c .before .before .before .before .before .scan .ensures in
     (scanned-fills (s .args .document) _ _ e .0, c .before .if1 .left)
 
 returns-2 : tie.Need-returns-2
 returns-2 c =
-    let s = c .before .before .before .before .before .before in
+    let s = c .before .before .before .before .before .before .before in
     reply-refused (form (formOf (s .args .document)) bytes (s .args .s .now)) (s .args .list .now) _
     (sym (c .before .seen .given .1) ∙ c .before .before .before .scan .ensures)
 
 returns-3 : tie.Need-returns-3
 returns-3 c =
-    let s = c .before .before .before .before .before .before .before .before .before .before .before in
+    let s = c .before .before .before .before .before .before .before .before .before .before .before .before in
     reply-filled (s .args .document) (s .args .s .now) (s .args .list .now) _ _
     (sym (c .before .before .before .before .before .before .seen2 .given .1)
     ∙ c .before .before .before .before .before .before .before .before .scan .ensures)
@@ -43,8 +43,10 @@ receive-spec =
     (λ c κs. search needs)
     (λ c. search needs)
     (λ c. search needs)
+    (λ c. search needs)
     returns
     fill-requires
+    (λ c. search needs)
     returns-2
     (λ c. search needs)
     returns-3)

@@ -2,40 +2,40 @@
 -- nothing.
 use native.Mathlib.Omega.{arith}
 use Prim.Native.Nat.{_-_}
-use Rattle.reader.specs.Groups.{bytes}
+use Rattle.reader.specs.Steps.{readOf, heldIn}
 use Rattle.reader.proofs.Running.{Running, running-starts, running-refused, running-ends, running-turns}
 use borrow.Author.Needs.{needs}
 use Rattle.reader.proofs.scan.walk.Statement.{statement}
 use Rattle.reader.proofs.scan.walk.Tie as tie
 
 abbrev Inv-loop : tie.InvT-loop
-Inv-loop document s count run₀ k₀ run k = Running document bytes s count run₀ k run
+Inv-loop document source s list count run₀ k₀ run k = Running document (readOf source) (heldIn source s list) count run₀ k run
 
 abbrev μ-loop : tie.MeasureT-loop
-μ-loop document s count run₀ k₀ run k = count - k
+μ-loop document source s list count run₀ k₀ run k = count - k
 
 loop-holds : tie.Need-loop-holds Inv-loop μ-loop
-loop-holds c = running-starts _ bytes _ _ _ (c .before .pre .0)
+loop-holds c = running-starts _ _ _ _ _ (c .before .before .pre .0)
 
 returns : tie.Need-returns Inv-loop μ-loop
-returns c = running-refused _ bytes _ (c .before .before .loop .inv) (c .if1 .taken)
+returns c = running-refused _ _ _ (c .before .before .loop .inv) (c .if1 .taken)
 
-number-requires : tie.Need-number-requires Inv-loop μ-loop
-number-requires c κs = c .before .before .before .loop .inv .ready .within
+read-requires : tie.Need-read-requires Inv-loop μ-loop
+read-requires c κs = c .before .before .before .loop .inv .ready .within
 
 step-requires : tie.Need-step-requires Inv-loop μ-loop
 step-requires c κs =
     let i = c .before .before .before .before .loop .inv in
-    (i .ready .known, omega (arith, i .place, c .before .before .before .before .before .before .pre .1))
+    (i .ready .known, omega (arith, i .place, c .before .before .before .before .before .before .before .pre .1))
 
 loop-again : tie.Need-loop-again Inv-loop μ-loop
 loop-again c =
-    running-turns _ bytes _ (c .before .before .before .before .before .loop .inv) _ _
-    (c .before .before .before .before .loop-test .taken) (c .before .before .before .if1 .left) (c .before .number .ensures)
+    running-turns _ _ _ (c .before .before .before .before .before .loop .inv) _ _
+    (c .before .before .before .before .loop-test .taken) (c .before .before .before .if1 .left) (c .before .read .ensures)
     (c .step .ensures)
 
 returns-2 : tie.Need-returns-2 Inv-loop μ-loop
-returns-2 c = running-ends _ bytes _ (c .before .loop .inv) (c .loop-test .left)
+returns-2 c = running-ends _ _ _ (c .before .loop .inv) (c .loop-test .left)
 
 pub walk-spec : {M : Type 1} → statement M
 walk-spec =
@@ -45,7 +45,7 @@ walk-spec =
     μ-loop
     loop-holds
     returns
-    number-requires
+    read-requires
     step-requires
     (λ c. search needs)
     (λ c. search needs)
