@@ -1,5 +1,6 @@
 -- What is known of an accepted ticket: how many numbers it has, how large they are, and how many bytes they take.
 use mathlib.Core.Path.{_≡_, refl, ap, _∙_}
+use mathlib.Core.Logic.{⊎-elim, _⊎_, inl, inr}
 use mathlib.Core.Bool.{Bool, true, false, cond}
 use mathlib.Core.List.{List, [], _∷_}
 use Prim.Native.Nat.{ℕ, zero, suc, _+_, _-_, _*_, _%_, _^_, _≤_, _<_}
@@ -16,7 +17,7 @@ use Rattle.reader.specs.declared.layout.State.{State}
 use Rattle.reader.specs.Refusals.{ticketRefusals, hoursAboveLimit, aboveLimit, amountWithoutCap}
 use Rattle.reader.specs.Groups.{encode, groups, pack}
 use Rattle.reader.specs.Walk.{final}
-use Rattle.reader.specs.State.{must, first, start}
+use Rattle.reader.specs.State.{must, first, start, moved}
 use Rattle.reader.specs.Ticket.{dealField, placeField, fieldOf, partyFault, capFault, amountFault, faultOf, afterOf, ticketFault}
 use Rattle.reader.specs.Layout.{ticket}
 use Rattle.grid.proofs.Cases.{never}
@@ -39,6 +40,26 @@ place-after n m zero h = absurd (omega arith)
 place-after n m (suc zero) h = absurd (omega arith)
 place-after n m (suc (suc zero)) h = absurd (omega arith)
 place-after n m (suc (suc (suc p))) h = rw (three p)
+
+pub pair-place : (s : State) → 3 + s .growers + s .pilots ≤ s .place →
+    placeField (s .growers) (s .pilots) (s .place) ≡ dealField ((s .place - (3 + s .growers + s .pilots)) % 5)
+pair-place s h =
+    let e : s .place - 3 - (s .growers + s .pilots) ≡ s .place - (3 + s .growers + s .pilots) = omega arith in
+    rw (place-after (s .growers) (s .pilots) (s .place) (omega arith), le-ltb (s .place - 3) (s .growers + s .pilots) (omega arith))
+    (ap (λ (d : ℕ). dealField (d % 5)) e)
+
+-- A pair has its caps in the first field and in the fourth, and amounts in the others.
+pub cap-fields : (k : ℕ) (s : State) (x : ℕ) → (k ≡ 0) ⊎ (k ≡ 3) →
+    (must (leb x 60) aboveLimit ≡ faultOf (dealField k) s x) × (moved s (s .growers) (s .pilots) x ≡ afterOf (dealField k) s x)
+cap-fields k s x h = ⊎-elim (λ e. rw e (refl, refl)) (λ e. rw e (refl, refl)) h
+
+pub amount-fields : (k : ℕ) (s : State) (x : ℕ) → ((k ≡ 0) ⊎ (k ≡ 3) → ⊥) →
+    (amountFault (s .cap) x ≡ faultOf (dealField k) s x) × (moved s (s .growers) (s .pilots) (s .cap) ≡ afterOf (dealField k) s x)
+amount-fields zero s x h = absurd (h (inl refl))
+amount-fields (suc zero) s x h = (refl, refl)
+amount-fields (suc (suc zero)) s x h = (refl, refl)
+amount-fields (suc (suc (suc zero))) s x h = absurd (h (inr refl))
+amount-fields (suc (suc (suc (suc k)))) s x h = (refl, refl)
 
 -- A test that must hold and whose refusal is not met holds.
 pub must-holds : (t : Bool) (w : ℕ) → 0 < w → must t w ≡ 0 → t ≡ true

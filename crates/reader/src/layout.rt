@@ -5,10 +5,8 @@ ghost use Rattle.reader.specs.State.{start, must, first, moved};
 ghost use Rattle.reader.specs.Layout.{faultIn, afterIn, bodyIn};
 ghost use Rattle.reader.specs.Steps.{Known, mostPlaces, mostPairs};
 use crate::refusals::Document;
-use crate::settlement::settlement_after;
-use crate::settlement::settlement_fault;
-use crate::ticket::ticket_after;
-use crate::ticket::ticket_fault;
+use crate::settlement::settlement_check;
+use crate::ticket::ticket_check;
 
 // How many numbers a document has before its growers and pilots are known.
 pub(crate) const HEAD: usize = 3;
@@ -19,6 +17,12 @@ pub(crate) struct State {
     pub(crate) growers: usize,
     pub(crate) pilots: usize,
     pub(crate) cap: usize,
+}
+
+// A number looked at in a state: what is wrong with it, as a refusal number or 0 if nothing is, and the state after it.
+pub(crate) struct Checked {
+    pub(crate) why: u8,
+    pub(crate) after: State,
 }
 
 // The state before the first number.
@@ -60,29 +64,15 @@ pub(crate) fn moved(s: State, growers: usize, pilots: usize, cap: usize) -> Stat
     }
 }
 
-// What is wrong with a number at a state's place, as a refusal number; 0 if nothing is.
-pub(crate) fn fault(document: Document, s: State, x: usize) -> u8
-    requires { ⌜ Known s ⌝ }
-    ensures { λ r. ⌜ r ≡ faultIn document s x ⌝ }
-{
-    match document {
-        Document::Ticket => ticket_fault(s, x),
-        Document::Settlement { growers, pilots } => settlement_fault(growers, pilots, s, x),
-    }
-}
-
-// The state after a number that has no fault.
-pub(crate) fn after(document: Document, s: State, x: usize) -> State
+// What is wrong with a number at a state's place, and the state after it.
+pub(crate) fn check(document: Document, s: State, x: usize) -> Checked
     requires { ⌜ Known s ⌝ }
     requires { ⌜ s .place < mostPlaces ⌝ }
-    ensures { λ r. ⌜ r ≡ afterIn document s x ⌝ }
+    ensures { λ r. ⌜ (r .why ≡ faultIn document s x) × (r .after ≡ afterIn document s x) ⌝ }
 {
     match document {
-        Document::Ticket => ticket_after(s, x),
-        Document::Settlement {
-            growers: _,
-            pilots: _,
-        } => settlement_after(s, x),
+        Document::Ticket => ticket_check(s, x),
+        Document::Settlement { growers, pilots } => settlement_check(growers, pilots, s, x),
     }
 }
 

@@ -13,9 +13,8 @@ use crate::groups::entry;
 use crate::groups::number;
 use crate::layout::HEAD;
 use crate::layout::State;
-use crate::layout::after;
 use crate::layout::body_of;
-use crate::layout::fault;
+use crate::layout::check;
 use crate::layout::start;
 use crate::refusals::Document;
 use crate::refusals::refusals_of;
@@ -71,11 +70,11 @@ fn step(document: Document, s: State, got: Got) -> Run
     let refusals = refusals_of(document);
     match got {
         Got::Number { value, next } => {
-            let why = fault(document, s, value);
-            if 0 < why {
-                return refusing(why);
+            let checked = check(document, s, value);
+            if 0 < checked.why {
+                return refusing(checked.why);
             }
-            let state = after(document, s, value);
+            let state = checked.after;
             Run {
                 refused: false,
                 why: 0,

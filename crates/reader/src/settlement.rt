@@ -4,6 +4,7 @@ ghost use Prim.Native.Nat.{_<_};
 ghost use Rattle.reader.specs.Settlement.{placeFault, settlementFault, settlementAfter};
 ghost use Rattle.reader.specs.Steps.{mostPlaces};
 use crate::groups::TOO_LONG;
+use crate::layout::Checked;
 use crate::layout::State;
 use crate::layout::first;
 use crate::layout::moved;
@@ -25,7 +26,7 @@ fn place_fault(growers: usize, pilots: usize, place: usize, x: usize) -> u8
 }
 
 // A number that needs too many groups comes only from a list. It is refused as its second byte would be.
-pub(crate) fn settlement_fault(growers: usize, pilots: usize, s: State, x: usize) -> u8
+fn settlement_fault(growers: usize, pilots: usize, s: State, x: usize) -> u8
     ensures { λ r. ⌜ r ≡ settlementFault growers pilots s x ⌝ }
 {
     let refusals = refusals_of(Document::Settlement { growers, pilots });
@@ -36,7 +37,7 @@ pub(crate) fn settlement_fault(growers: usize, pilots: usize, s: State, x: usize
 }
 
 // The state after a number: its growers and pilots are kept.
-pub(crate) fn settlement_after(s: State, x: usize) -> State
+fn settlement_after(s: State, x: usize) -> State
     requires { ⌜ s .place < mostPlaces ⌝ }
     ensures { λ r. ⌜ r ≡ settlementAfter s x ⌝ }
 {
@@ -46,5 +47,17 @@ pub(crate) fn settlement_after(s: State, x: usize) -> State
         1 => moved(s, x, s.pilots, s.cap),
         2 => moved(s, s.growers, x, s.cap),
         _ => moved(s, s.growers, s.pilots, s.cap),
+    }
+}
+
+// What is wrong with a number at a state's place, and the state after it.
+pub(crate) fn settlement_check(growers: usize, pilots: usize, s: State, x: usize) -> Checked
+    requires { ⌜ s .place < mostPlaces ⌝ }
+    ensures { λ r. ⌜ (r .why ≡ settlementFault growers pilots s x) × (r .after ≡ settlementAfter s x) ⌝ }
+{
+    let after = settlement_after(s, x);
+    Checked {
+        why: settlement_fault(growers, pilots, s, x),
+        after,
     }
 }

@@ -4,6 +4,7 @@ ghost use Prim.Native.Nat.{_<_};
 ghost use Rattle.reader.specs.Ticket.{dealField, fieldOf, partyFault, capFault, amountFault, faultOf, afterOf};
 ghost use Rattle.reader.specs.Ticket.{ticketFault, ticketAfter};
 ghost use Rattle.reader.specs.Steps.{Known, mostPlaces};
+use crate::layout::Checked;
 use crate::layout::HEAD;
 use crate::layout::State;
 use crate::layout::first;
@@ -123,18 +124,45 @@ fn after_of(field: Field, s: State, x: usize) -> State
     }
 }
 
-// The two steps of a ticket's walk, at a state's place.
-pub(crate) fn ticket_fault(s: State, x: usize) -> u8
-    requires { ⌜ Known s ⌝ }
-    ensures { λ r. ⌜ r ≡ ticketFault s x ⌝ }
+// A number of a pair, whose five fields are of two sorts: caps and amounts.
+fn deal_check(k: usize, s: State, x: usize) -> Checked
+    requires { ⌜ s .place < mostPlaces ⌝ }
+    ensures { λ r. ⌜ (r .why ≡ faultOf (dealField k) s x) × (r .after ≡ afterOf (dealField k) s x) ⌝ }
 {
-    fault_of(field_of(s), s, x)
+    match k {
+        0 | 3 => {
+            let after = moved(s, s.growers, s.pilots, x);
+            Checked {
+                why: must(x <= 60, ABOVE_LIMIT),
+                after,
+            }
+        }
+        _ => {
+            let after = moved(s, s.growers, s.pilots, s.cap);
+            Checked {
+                why: amount_fault(s.cap, x),
+                after,
+            }
+        }
+    }
 }
 
-pub(crate) fn ticket_after(s: State, x: usize) -> State
+// What is wrong with a number at a state's place, and the state after it.
+// Nearly all numbers stand in pairs. They are looked at first, since a test is faster than a jump to one of nine fields.
+pub(crate) fn ticket_check(s: State, x: usize) -> Checked
     requires { ⌜ Known s ⌝ }
     requires { ⌜ s .place < mostPlaces ⌝ }
-    ensures { λ r. ⌜ r ≡ ticketAfter s x ⌝ }
+    ensures { λ r. ⌜ (r .why ≡ ticketFault s x) × (r .after ≡ ticketAfter s x) ⌝ }
 {
-    after_of(field_of(s), s, x)
+    let place = s.place;
+    let pairs = HEAD + s.growers + s.pilots;
+    if pairs <= place {
+        return deal_check((place - pairs) % 5, s, x);
+    }
+    let field = field_of(s);
+    let after = after_of(field, s, x);
+    Checked {
+        why: fault_of(field, s, x),
+        after,
+    }
 }

@@ -9,13 +9,14 @@ use Rattle.reader.proofs.scan.step.Tie as tie
 
 returns : tie.Need-returns
 returns c =
-    rw (c .before .before .before .before .got .given .1)
-    (c .refusing .ensures ∙ fault-refuses _ _ _ (c .before .before .fault .ensures) (c .before .if1 .taken))
+    rw (c .before .before .before .before .before .got .given .1)
+    (c .refusing .ensures ∙ fault-refuses _ _ _ (c .before .before .before .check .ensures .0) (c .before .if1 .taken))
 
 returns-2 : tie.Need-returns-2
 returns-2 c =
-    rw (c .before .before .before .before .got .given .1)
-    (fault-passes _ _ _ _ (c .before .before .fault .ensures) (omega arith) (rw (c .after .ensures)))
+    let checked = c .before .before .before .check .ensures in
+    rw (c .before .before .before .before .before .got .given .1)
+    (fault-passes _ _ _ _ (checked .0) (omega arith) (rw (checked .1)))
 
 returns-3 : tie.Need-returns-3
 returns-3 c = rw (c .before .enum-told .given .1) (rw (c .before .before .before .refusals-of .ensures) at (c .refusing2 .ensures))
@@ -35,7 +36,6 @@ step-spec =
     (λ c κs. search needs)
     (λ c κs. search needs)
     returns
-    (λ c κs. search needs)
     (λ c. search needs)
     (λ c κs. search needs)
     (λ c. search needs)
