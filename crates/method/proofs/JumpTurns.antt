@@ -16,7 +16,7 @@ use Rattle.method.specs.declared.Agreed.{Agreed}
 use Rattle.method.specs.View.{line, ticket, heldIn}
 use Rattle.method.specs.State.{Live, Turned}
 use Rattle.method.specs.Jumps.{among, GrowersBear, PilotsBear, RaisedMarked}
-use Rattle.method.specs.Moves.{Jumps}
+use Rattle.method.specs.Rises.{Jumps}
 use Rattle.method.proofs.JumpLaws.{growers-any}
 
 -- What pilots bear does not depend on the growers' hours.

@@ -5,4 +5,4 @@ pub mod LateHours
 pub mod Changes
 pub mod Result
 pub mod Jumps
-pub mod Moves
+pub mod Rises

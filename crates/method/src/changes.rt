@@ -3,7 +3,6 @@ ghost use mathlib.Core.Path.{_≡_};
 ghost use Prim.Native.Nat.{ℕ, _+_, _<_, _≤_};
 ghost use lib.ListN.{getD, set};
 ghost use Rattle.market.specs.Method.{slotFor};
-ghost use Rattle.market.specs.Steps.{Added};
 ghost use Rattle.method.specs.View.{heldIn, hoursHeld, agreedAt};
 ghost use Rattle.method.specs.LateHours.{lateSlot};
 ghost use Rattle.method.specs.Changes.{Full, MoreHeld, agedPair, Aged, Swap};
@@ -14,7 +13,7 @@ use crate::numbers::narrow;
 use market::Deal;
 
 // The hours of a pair when x more come into a deal; in the free deal they are new.
-fn more(agreed: Agreed, deal: Deal, x: u16) -> Agreed
+pub(crate) fn more(agreed: Agreed, deal: Deal, x: u16) -> Agreed
     requires { ⌜ hoursHeld agreed (slotFor deal) + x < 65536 ⌝ }
     ensures { λ r. ⌜ MoreHeld agreed r (slotFor deal) x ⌝ }
 {
@@ -51,38 +50,6 @@ fn fewer(agreed: Agreed, deal: Deal, x: u16) -> Agreed
     }
 }
 
-// x hours come into a deal of grower i and pilot j.
-pub(crate) fn add_hours(
-    held: [[Agreed; 16]; 16],
-    deal: Deal,
-    i: usize,
-    j: usize,
-    x: u16,
-) -> [[Agreed; 16]; 16]
-    requires { ⌜ Full held × (i < 16) × (j < 16) × (heldIn held (slotFor deal) i j + x < 65536) ⌝ }
-    ensures { λ r. ⌜ Full r × Added (heldIn held) (heldIn r) (slotFor deal) i j x ⌝ }
-{
-    let mut next = held;
-    next[i][j] = more(held[i][j], deal, x);
-    next
-}
-
-// x late hours leave a deal of grower i and pilot j.
-fn take_hours(
-    held: [[Agreed; 16]; 16],
-    deal: Deal,
-    i: usize,
-    j: usize,
-    x: u16,
-) -> [[Agreed; 16]; 16]
-    requires { ⌜ Full held × (i < 16) × (j < 16) × (x ≤ heldIn held (lateSlot deal) i j) ⌝ }
-    ensures { λ r. ⌜ Full r × Added (heldIn r) (heldIn held) (lateSlot deal) i j x ⌝ }
-{
-    let mut next = held;
-    next[i][j] = fewer(held[i][j], deal, x);
-    next
-}
-
 // At most x hours come into a deal of grower i and pilot j, and as many late hours of the pilot leave a deal with grower `giver`.
 pub(crate) fn swap_hours(
     held: [[Agreed; 16]; 16],
@@ -98,8 +65,10 @@ pub(crate) fn swap_hours(
     ensures { λ r. ⌜ Swap held r deal i j given giver x ⌝ }
 {
     let count = narrow(least(x, late_count(held[giver][j], given)));
-    let put = add_hours(held, deal, i, j, count);
-    take_hours(put, given, giver, j, count)
+    let mut next = held;
+    next[i][j] = more(next[i][j], deal, count);
+    next[giver][j] = fewer(next[giver][j], given, count);
+    next
 }
 
 // The hours of a pair when the new ones have become old.

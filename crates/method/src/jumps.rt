@@ -36,35 +36,7 @@ pub(crate) fn raise_marked(price: &mut [u32; 16], marks: [bool; 16], pilots: usi
     *price = next;
 }
 
-// The jump of the marked pilots, pilot j among them, as far as all bear it; of size 0 if there is none.
-fn jump_of(
-    growers: usize,
-    pilots: usize,
-    pilot_hours: [u16; 16],
-    terms: [[Terms; 16]; 16],
-    price: &[u32; 16],
-    held: [[Agreed; 16]; 16],
-    marks: [bool; 16],
-    j: usize,
-) -> Jump
-    requires { ⌜ (growers ≤ 16) × (pilots ≤ 16) × (j < 16) ⌝ }
-    ensures { λ r. ⌜ JumpFrom (ticket growers pilots [] «pilot_hours» terms) (line (now (price .entry))) (heldIn held) j r ⌝ }
-{
-    if !marks[j] {
-        return Jump {
-            pilots: marks,
-            by: 0,
-        };
-    }
-    let for_pilots = pilots_slack(growers, pilots, pilot_hours, terms, price, held, marks);
-    let for_growers = growers_slack(growers, pilots, terms, price, held, marks);
-    Jump {
-        pilots: marks,
-        by: least(for_pilots, for_growers),
-    }
-}
-
-// The jump that lifts pilot j; of size 0 if there is none.
+// The jump that lifts pilot j and those tied to him, as far as all bear it; of size 0 if there is none.
 pub(crate) fn jump_from(
     growers: usize,
     pilots: usize,
@@ -78,5 +50,16 @@ pub(crate) fn jump_from(
     ensures { λ r. ⌜ JumpFrom (ticket growers pilots [] «pilot_hours» terms) (line (now (price .entry))) (heldIn held) j r ⌝ }
 {
     let marks = tied(growers, pilots, terms, price, held, j);
-    jump_of(growers, pilots, pilot_hours, terms, price, held, marks, j)
+    if !marks[j] {
+        return Jump {
+            pilots: marks,
+            by: 0,
+        };
+    }
+    let for_pilots = pilots_slack(growers, pilots, pilot_hours, terms, price, held, marks);
+    let for_growers = growers_slack(growers, pilots, terms, price, held, marks);
+    Jump {
+        pilots: marks,
+        by: least(for_pilots, for_growers),
+    }
 }

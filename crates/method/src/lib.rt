@@ -5,9 +5,9 @@ mod changes;
 mod choice;
 mod finish;
 mod growers_bear;
+mod hours;
 mod jumps;
 mod late;
-mod moves;
 mod numbers;
 mod offers;
 mod pilots_bear;
@@ -67,13 +67,6 @@ pub(crate) enum Next {
 pub(crate) enum LateHour {
     NoHour,
     Hour(usize, Deal),
-}
-
-// What a turn does for a deal: add hours, swap them for late hours of a grower's deal, or raise the pilot's price.
-pub(crate) enum Move {
-    Add(u16),
-    Swap(usize, Deal),
-    Rise,
 }
 
 // A rise of several prices at once: of which pilots, and by how much.

@@ -1,14 +1,11 @@
 // How far pilots bear a rise of their prices: they have no free hour, and no tariff hour of theirs may pay too little.
-ghost use mathlib.Core.Path.{_≡_};
 ghost use Prim.Native.Nat.{_+_, _*_, _-_, _<_, _≤_};
 ghost use mathlib.Core.List.{[]};
-ghost use Rattle.market.specs.Market.{usedByPilot};
-ghost use Rattle.market.specs.Method.{hoursOf};
 ghost use Rattle.method.specs.View.{line, ticket, heldIn, termsAt, agreedAt};
 ghost use Rattle.method.specs.Jumps.{among, TariffsBear, PilotsBear};
 use crate::Agreed;
 use crate::Terms;
-use crate::moves::used_by_pilot;
+use crate::hours::used_by_pilot;
 use crate::numbers::TOP;
 use crate::numbers::least;
 use crate::numbers::less;
@@ -42,26 +39,7 @@ fn tariff_slack(
     by
 }
 
-// What pilot j bears: nothing, if he has a free hour.
-fn pilot_slack(
-    growers: usize,
-    hours: u16,
-    terms: [[Terms; 16]; 16],
-    price: u32,
-    held: [[Agreed; 16]; 16],
-    j: usize,
-) -> u32
-    requires { ⌜ (growers ≤ 16) × (j < 16) ⌝ }
-    ensures { λ r. ⌜ (0 < r → usedByPilot (ticket growers 0 [] [] []) (hoursOf (heldIn held)) j ≡ hours) ⌝ }
-    ensures { λ r. ⌜ TariffsBear (λ i. agreedAt held i j .«by_tariff») (λ i. termsAt terms i j .«tariff_pay») price growers r ⌝ }
-{
-    if used_by_pilot(held, j, growers) != wide(hours) {
-        return 0;
-    }
-    tariff_slack(growers, terms, price, held, j)
-}
-
-// What all marked pilots bear.
+// What all marked pilots bear: nothing, if one has a free hour.
 pub(crate) fn pilots_slack(
     growers: usize,
     pilots: usize,
@@ -78,8 +56,10 @@ pub(crate) fn pilots_slack(
     let mut by = TOP;
     for j in 0..pilots {
         if marks[j] {
-            let slack = pilot_slack(growers, pilot_hours[j], terms, price[j], held, j);
-            by = least(by, slack);
+            if used_by_pilot(held, j, growers) != wide(pilot_hours[j]) {
+                return 0;
+            }
+            by = least(by, tariff_slack(growers, terms, price[j], held, j));
         }
     }
     by

@@ -3,26 +3,29 @@ ghost use mathlib.Core.Path.{_≡_};
 ghost use Prim.Native.Nat.{ℕ, _+_, _<_, _≤_};
 ghost use mathlib.Core.List.{[]};
 ghost use lib.ListN.{length};
-ghost use Rattle.method.specs.View.{line, ticket, heldIn, agreedAt};
-ghost use Rattle.method.specs.State.{Fit, Live, Turned, Ended};
-ghost use Rattle.method.specs.Choice.{Wanted};
+ghost use Rattle.method.specs.View.{line, ticket, agreedAt};
+ghost use Rattle.method.specs.State.{Fit, Ended};
 ghost use Rattle.method.specs.Changes.{Full};
-ghost use Rattle.method.specs.Moves.{Rises};
+ghost use Rattle.method.specs.Rises.{Rises};
 use crate::Agreed;
-use crate::Move;
+use crate::LateHour;
 use crate::Next;
-use crate::Place;
 use crate::Terms;
-use crate::changes::add_hours;
 use crate::changes::age;
+use crate::changes::more;
 use crate::changes::raise_price;
 use crate::changes::swap_hours;
 use crate::choice::next_deal;
 use crate::finish::no_hours;
+use crate::hours::most_hours;
+use crate::hours::used_by_pilot;
 use crate::jumps::jump_from;
 use crate::jumps::raise_marked;
-use crate::moves::most_hours;
-use crate::moves::next_move;
+use crate::late::late_hour;
+use crate::numbers::least;
+use crate::numbers::less;
+use crate::numbers::narrow;
+use crate::numbers::wide;
 
 // Pilot j's price rises: in a jump with other pilots, if they all bear it, or else by one, and his new hours become old.
 fn rise(
@@ -50,37 +53,8 @@ fn rise(
     age(held, growers, j)
 }
 
-// One turn: the deal gets hours, or its pilot's price rises.
-fn turn(
-    growers: usize,
-    pilots: usize,
-    grower_hours: [u16; 16],
-    pilot_hours: [u16; 16],
-    terms: [[Terms; 16]; 16],
-    price: &mut [u32; 16],
-    held: [[Agreed; 16]; 16],
-    place: Place,
-) -> [[Agreed; 16]; 16]
-    requires { ⌜ Fit (ticket growers pilots «grower_hours» «pilot_hours» terms) ⌝ }
-    requires { ⌜ Live (ticket growers pilots «grower_hours» «pilot_hours» terms) (now price) held ⌝ }
-    requires { ⌜ Wanted (ticket growers pilots «grower_hours» «pilot_hours» terms) (line (now price)) (heldIn held)
-        (place .deal) (place .grower) (place .pilot) ⌝ }
-    ensures { λ r. ⌜ Turned (ticket growers pilots «grower_hours» «pilot_hours» terms) (now (price .entry)) held
-        (now (price .exit)) r ⌝ }
-{
-    let i = place.grower;
-    let j = place.pilot;
-    let deal = place.deal;
-    let most = most_hours(terms[i], held[i], grower_hours[i], pilots, deal, j);
-    let next = next_move(growers, pilot_hours[j], terms, price[j], held, j, most);
-    match next {
-        Move::Add(count) => add_hours(held, deal, i, j, count),
-        Move::Swap(giver, given) => swap_hours(held, deal, i, j, given, giver, most),
-        Move::Rise => rise(growers, pilots, pilot_hours, terms, price, held, j),
-    }
-}
-
-// The hours that are held at the end of the method, which starts with none.
+// The hours that are held at the end of the method, which starts with none. A turn gives hours to the next deal while its pilot has
+// free ones, or in place of late hours of his; if he has neither, his price rises.
 pub(crate) fn run(
     growers: usize,
     pilots: usize,
@@ -100,17 +74,23 @@ pub(crate) fn run(
         let Next::Serve(place) = next else {
             return held;
         };
-        let after = turn(
-            growers,
-            pilots,
-            grower_hours,
-            pilot_hours,
-            terms,
-            &mut *price,
-            held,
-            place,
-        );
+        let i = place.grower;
+        let j = place.pilot;
+        let deal = place.deal;
+        from = i;
+        let most = most_hours(terms[i], held[i], grower_hours[i], pilots, deal, j);
+        let free = less(wide(pilot_hours[j]), used_by_pilot(held, j, growers));
+        if 0 < free {
+            held[i][j] = more(held[i][j], deal, narrow(least(most, free)));
+            continue;
+        }
+        let late = late_hour(growers, terms, price[j], held, j);
+        if let LateHour::Hour(giver, given) = late {
+            let after = swap_hours(held, deal, i, j, given, giver, most);
+            held = after;
+            continue;
+        }
+        let after = rise(growers, pilots, pilot_hours, terms, &mut *price, held, j);
         held = after;
-        from = place.grower;
     }
 }

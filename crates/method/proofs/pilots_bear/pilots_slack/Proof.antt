@@ -20,19 +20,22 @@ abbrev μ-loop : tie.MeasureT-loop
 loop-holds : tie.Need-loop-holds Inv-loop μ-loop
 loop-holds c = (search needs, pilots-none _ _ _ _ _)
 
+returns : tie.Need-returns Inv-loop μ-loop
+returns c = λ l h m x pos le. absurd (omega arith)
+
 loop-again : tie.Need-loop-again Inv-loop μ-loop
 loop-again c = let all = c .before .before .loop .inv .1 in (
   search needs,
   ⊎-elim
       (λ w.
-      let e = w .3 .ensures in
-      let f = w .2 .ensures in
-      rw (w .4) (pilots-marked _ _ _ _ _ _ _ _ (e .0) (e .1) (pilot-bears _ _ _ _ _ _ (f .0) (f .1)) all))
+      let e = w .6 .ensures in
+      rw (w .7) (pilots-marked _ _ _ _ _ _ _ _ (e .0) (e .1)
+      (pilot-bears _ _ _ _ _ _ (λ _. omega (arith, w .1 .ensures, w .2 .ensures, w .3 .left)) (w .5 .ensures)) all))
       (λ w. pilots-left _ _ _ _ _ _ _ (w .0 .left) (w .1) all) (c .if1 .came),
 )
 
-returns : tie.Need-returns Inv-loop μ-loop
-returns c = pilots-end _ _ _ _ _ _ (omega arith) (c .before .loop .inv .1)
+returns-2 : tie.Need-returns-2 Inv-loop μ-loop
+returns-2 c = pilots-end _ _ _ _ _ _ (omega arith) (c .before .loop .inv .1)
 
 pub pilots-slack-spec : {M : Type 1} → statement M
 pilots-slack-spec =
@@ -42,8 +45,11 @@ pilots-slack-spec =
     μ-loop
     loop-holds
     (λ c. search needs)
+    (λ c κs. search needs)
     (λ c. search needs)
     (λ c. search needs)
+    (λ c κs. search needs)
+    returns
     (λ c. search needs)
     (λ c. search needs)
     (λ c κs. search needs)
@@ -51,4 +57,4 @@ pilots-slack-spec =
     (λ c. search needs)
     (λ c. search needs)
     loop-again
-    returns)
+    returns-2)

@@ -1,5 +1,4 @@
-// What a turn does for the deal that is to be served: hours come into it while its pilot has free ones, or in place of late hours of
-// his; if he has neither, his price rises.
+// How many hours the deal that is to be served could get, and how many its pilot has in deals.
 ghost use mathlib.Core.Path.{_≡_};
 ghost use Prim.Native.Nat.{_+_, _<_, _≤_};
 ghost use mathlib.Core.List.{[]};
@@ -7,17 +6,11 @@ ghost use Rattle.market.specs.Market.{usedByGrower, usedByPilot};
 ghost use Rattle.market.specs.Method.{hoursOf};
 ghost use Rattle.method.specs.View.{ticket, alone, heldIn, heldBy, termsIn, agreedIn, capOf, hoursIn};
 ghost use Rattle.method.specs.Changes.{Room};
-ghost use Rattle.method.specs.Moves.{MoveIs};
 use crate::Agreed;
-use crate::LateHour;
-use crate::Move;
 use crate::Terms;
 use crate::choice::pair_hours;
 use crate::choice::used_by_grower;
-use crate::late::late_hour;
 use crate::numbers::least;
-use crate::numbers::less;
-use crate::numbers::narrow;
 use crate::numbers::wide;
 use market::Deal;
 
@@ -59,28 +52,4 @@ pub(crate) fn used_by_pilot(held: [[Agreed; 16]; 16], j: usize, growers: usize) 
         total += pair_hours(held[i][j]);
     }
     total
-}
-
-// The move for a deal of pilot j that could get `most` hours.
-pub(crate) fn next_move(
-    growers: usize,
-    hours: u16,
-    terms: [[Terms; 16]; 16],
-    price: u32,
-    held: [[Agreed; 16]; 16],
-    j: usize,
-    most: u32,
-) -> Move
-    requires { ⌜ (growers ≤ 16) × (j < 16) × (0 < most) × (most < 65536) ⌝ }
-    ensures { λ r. ⌜ MoveIs (ticket growers 0 [] [] terms) hours (λ _. price) (heldIn held) j most r ⌝ }
-{
-    let free = less(wide(hours), used_by_pilot(held, j, growers));
-    if 0 < free {
-        return Move::Add(narrow(least(most, free)));
-    }
-    let late = late_hour(growers, terms, price, held, j);
-    match late {
-        LateHour::Hour(giver, given) => Move::Swap(giver, given),
-        LateHour::NoHour => Move::Rise,
-    }
 }

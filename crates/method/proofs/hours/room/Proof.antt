@@ -1,9 +1,9 @@
--- `method::moves::room` meets its contract.
+-- `method::hours::room` meets its contract.
 -- Assumes nothing.
 use native.Mathlib.Omega.{arith}
 use borrow.Author.Needs.{needs}
-use Rattle.method.proofs.moves.room.Statement.{statement}
-use Rattle.method.proofs.moves.room.Tie as tie
+use Rattle.method.proofs.hours.room.Statement.{statement}
+use Rattle.method.proofs.hours.room.Tie as tie
 
 sub-result : tie.Need-sub-result
 sub-result c = let h = rw (c .before .before .enum-told .given .1) at (c .before .before .before .before .pre) in omega arith

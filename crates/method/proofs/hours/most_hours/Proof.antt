@@ -1,10 +1,10 @@
--- `method::moves::most_hours` meets its contract.
+-- `method::hours::most_hours` meets its contract.
 -- Assumes nothing.
 use native.Mathlib.Omega.{arith}
 use Rattle.method.proofs.TurnLaws.{room-is}
 use borrow.Author.Needs.{needs}
-use Rattle.method.proofs.moves.most_hours.Statement.{statement}
-use Rattle.method.proofs.moves.most_hours.Tie as tie
+use Rattle.method.proofs.hours.most_hours.Statement.{statement}
+use Rattle.method.proofs.hours.most_hours.Tie as tie
 
 returns : tie.Need-returns
 returns c = let a = c .before .before .before .before .before .before .args in

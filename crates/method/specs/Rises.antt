@@ -1,27 +1,16 @@
--- What a turn does for the deal to be served, and how a price rises.
+-- How a price rises.
 -- Assumes nothing.
-use Prim.Native.Nat.{ℕ, _+_, _≤_, _<_}
+use Prim.Native.Nat.{ℕ, _+_, _<_}
 use mathlib.Core.Path.{_≡_}
 use mathlib.Core.Logic.{_⊎_}
 use mathlib.Core.List.{List}
 use lib.ListN.{getD, set}
-use Rattle.market.specs.Market.{Ticket, usedByPilot}
-use Rattle.market.specs.Method.{Held, hoursOf}
+use Rattle.market.specs.Market.{Ticket}
 use Rattle.method.specs.declared.Agreed.{Agreed}
 use Rattle.method.specs.declared.Jump.{Jump}
-use Rattle.method.specs.declared.LateHour.the-variants.{NoHour, Hour}
-use Rattle.method.specs.declared.Move.{Move}
-use Rattle.method.specs.declared.Move.the-variants.{Add, Swap, Rise}
 use Rattle.method.specs.View.{line, heldIn}
-use Rattle.method.specs.LateHours.{LateIs}
 use Rattle.method.specs.Changes.{Full, Aged}
 use Rattle.method.specs.Jumps.{RaisedMarked, JumpFrom}
-
--- a deal of pilot j, who has so many hours, could get `most` hours: his free hours come first, then late hours, then his price
-abbrev pub MoveIs : Ticket → ℕ → (ℕ → ℕ) → Held → ℕ → ℕ → Move → Type 0
-MoveIs t hours price held j most (Add x) = (0 < x) × (x ≤ most) × (usedByPilot t (hoursOf held) j + x ≤ hours)
-MoveIs t hours price held j most (Swap k e) = LateIs t price held j (Hour k e)
-MoveIs t hours price held j most Rise = (hours ≤ usedByPilot t (hoursOf held) j) × LateIs t price held j NoHour
 
 -- a jump that lifts pilot j, and no hour is changed
 pub record Jumps (t : Ticket) (prices : List ℕ) (held : List (List Agreed)) (prices′ : List ℕ) (held′ : List (List Agreed)) (j : ℕ) : Type 0 where

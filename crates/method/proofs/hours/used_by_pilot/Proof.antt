@@ -1,4 +1,4 @@
--- `method::moves::used_by_pilot` meets its contract.
+-- `method::hours::used_by_pilot` meets its contract.
 -- Assumes nothing.
 use Prim.Native.Nat.{_+_, _*_, _-_, _≤_}
 use mathlib.Core.Path.{_≡_}
@@ -7,8 +7,8 @@ use Rattle.grid.specs.Sum.{sum}
 use Rattle.method.specs.View.{agreedAt}
 use Rattle.method.proofs.Totals.{total-none, total-more, total-end}
 use borrow.Author.Needs.{needs}
-use Rattle.method.proofs.moves.used_by_pilot.Statement.{statement}
-use Rattle.method.proofs.moves.used_by_pilot.Tie as tie
+use Rattle.method.proofs.hours.used_by_pilot.Statement.{statement}
+use Rattle.method.proofs.hours.used_by_pilot.Tie as tie
 
 abbrev Inv-loop : tie.InvT-loop
 Inv-loop j growers held total₀ i₀ total i = (i ≤ growers) × (total ≤ 196608 * i) ×
