@@ -1,28 +1,22 @@
 //! Marking by cheapest spares, as the proved marker does it: the yardstick for its speed.
 
-use super::mark::{FreeHours, Market, Place, Verdict, grower_earns, pilot_earns};
+use super::mark::{FreeHours, Market, Place, Verdict, grower_earns, mark_by, pilot_earns};
 use super::settlement::{Agreement, Settlement};
 use super::ticket::{Terms, Ticket};
 use super::{Deal, Refusal};
 
 /// Answers as `mark::mark` does.
 pub fn mark(ticket: &[u8], settlement: &[u8]) -> Result<Verdict, Refusal> {
-    let ticket = Ticket::read(ticket)?;
-    let settlement = Settlement::read(settlement, &ticket)?;
-    Ok(judge(&ticket, &settlement))
+    mark_by(judge, ticket, settlement)
 }
 
 /// Answers as `mark::judge` does.
 pub fn judge(ticket: &Ticket, settlement: &Settlement) -> Verdict {
-    let market = Market { ticket, settlement };
-    market.infeasible().unwrap_or_else(|| {
-        let free = FreeHours::of(&market);
-        market.walk_deals(&free, |place| blocks(market, &free, place))
-    })
+    Market { ticket, settlement }.judge_by(blocks)
 }
 
 /// An unfilled deal blocks.
-fn blocks(market: Market, free: &FreeHours, place: Place) -> bool {
+fn blocks(market: &Market, free: &FreeHours, place: Place) -> bool {
     let terms = market.ticket.terms(place.grower, place.pilot);
     let Some(of_grower) = cheapest_of_grower(market, free, place) else {
         return false;
@@ -36,7 +30,7 @@ fn blocks(market: Market, free: &FreeHours, place: Place) -> bool {
     }
 }
 
-fn cheapest_of_grower(market: Market, free: &FreeHours, place: Place) -> Option<u16> {
+fn cheapest_of_grower(market: &Market, free: &FreeHours, place: Place) -> Option<u16> {
     let grower = place.grower;
     if free.of_growers[grower] > 0 {
         return Some(0);
@@ -49,7 +43,7 @@ fn cheapest_of_grower(market: Market, free: &FreeHours, place: Place) -> Option<
         .min()
 }
 
-fn cheapest_of_pilot(market: Market, free: &FreeHours, place: Place) -> Option<u16> {
+fn cheapest_of_pilot(market: &Market, free: &FreeHours, place: Place) -> Option<u16> {
     let pilot = place.pilot;
     if free.of_pilots[pilot] > 0 {
         return Some(0);

@@ -41,6 +41,15 @@ pub struct Place {
 
 /// Marks a settlement of a ticket.
 pub fn mark(ticket: &[u8], settlement: &[u8]) -> Result<Verdict, Refusal> {
+    mark_by(judge, ticket, settlement)
+}
+
+/// Reads the two files, and has them judged.
+pub fn mark_by(
+    judge: impl Fn(&Ticket, &Settlement) -> Verdict,
+    ticket: &[u8],
+    settlement: &[u8],
+) -> Result<Verdict, Refusal> {
     let ticket = Ticket::read(ticket)?;
     let settlement = Settlement::read(settlement, &ticket)?;
     Ok(judge(&ticket, &settlement))
@@ -48,11 +57,7 @@ pub fn mark(ticket: &[u8], settlement: &[u8]) -> Result<Verdict, Refusal> {
 
 /// The verdict on a settlement that was read for this ticket.
 pub fn judge(ticket: &Ticket, settlement: &Settlement) -> Verdict {
-    let market = Market { ticket, settlement };
-    market.infeasible().unwrap_or_else(|| {
-        let free = FreeHours::of(&market);
-        market.walk_deals(&free, |place| market.blocks(&free, place))
-    })
+    Market { ticket, settlement }.judge_by(Market::blocks)
 }
 
 /// A ticket and a settlement of it.
@@ -63,6 +68,14 @@ pub struct Market<'a> {
 }
 
 impl Market<'_> {
+    /// The verdict, by a test whether an unfilled deal blocks.
+    pub fn judge_by(&self, blocks: impl Fn(&Self, &FreeHours, Place) -> bool) -> Verdict {
+        self.infeasible().unwrap_or_else(|| {
+            let free = FreeHours::of(self);
+            self.walk_deals(&free, |place| blocks(self, &free, place))
+        })
+    }
+
     /// The first fault of pairs, then of growers, then of pilots.
     pub fn infeasible(&self) -> Option<Verdict> {
         self.wrong_pair()
