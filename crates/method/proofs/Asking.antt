@@ -1,4 +1,4 @@
--- What growers ask for, and what the search over all of them tells of the market.
+-- What growers ask for, and what it tells of the market that none of them asks for anything.
 -- Assumes nothing.
 use Prim.Native.Nat.{ℕ, _+_, _≤_, _<_}
 use mathlib.Core.Path.{_≡_, refl}
@@ -14,12 +14,17 @@ use Rattle.market.specs.Market.{Ticket, cap, usedByGrower}
 use Rattle.market.specs.Method.{Held, hoursOf, offer, Done}
 use Rattle.method.specs.declared.Best.{Best}
 use Rattle.method.specs.declared.Best.the-variants.{Nothing, Offer}
-use Rattle.method.specs.declared.Next.{Next}
-use Rattle.method.specs.declared.Next.the-variants.{Finished, Serve}
+use Rattle.method.specs.declared.Request.{Request}
+use Rattle.method.specs.declared.Request.the-variants.{Content, Hours}
 use Rattle.method.specs.declared.Terms.{Terms}
 use Rattle.method.specs.declared.Agreed.{Agreed}
-use Rattle.method.specs.View.{line, ticket, alone, heldIn, heldBy}
-use Rattle.method.specs.Choice.{chance, Greatest, Wanted, AsksNothing, Asked, NextIs}
+use Rattle.method.specs.View.{line, ticket, alone, heldIn, heldBy, agreedIn, termsIn, hoursIn, capOf}
+use Rattle.method.specs.Choice.{chance, Greatest, Wanted, AsksNothing, Room, Asks}
+
+-- the best deal that is there for grower i with a free hour
+abbrev pub Asked : Ticket → (ℕ → ℕ) → Held → ℕ → Best → Type 0
+Asked t price held i Nothing = AsksNothing t price held i
+Asked t price held i (Offer j d) = Wanted t price held d i j
 
 module _ (t : Ticket) (price : ℕ → ℕ) (held : Held) (i : ℕ) where
   chance-room : (d : Deal) (j : ℕ) → 0 < chance t price held i d j → hoursOf held d i j < cap t d i j
@@ -71,32 +76,48 @@ module _ (m hours : ℕ) (terms : List Terms) (agreed : List Agreed) (prices : L
   asks-for-best best free g =
       asks-for-greatest (alone m hours terms) (line prices) (heldBy agreed) 0 best (omega arith) free (same-greatest best g)
 
--- The first k growers from `from` on, and round to it again, ask for nothing.
-pub record NoneAsks (t : Ticket) (price : ℕ → ℕ) (held : Held) (from k : ℕ) : Type 0 where
-  pub ahead : (i : ℕ) → i < t .growers → from ≤ i → i < from + k → AsksNothing t price held i
-  pub behind : (i : ℕ) → i < t .growers → i < from → i + t .growers < from + k → AsksNothing t price held i
+-- so many hours as the grower has free and the deal has room for
+pub room-is : (m hours : ℕ) (terms : List Terms) (agreed : List Agreed) (d : Deal) (j x : ℕ) → 0 < x →
+    hoursIn (agreedIn agreed j) d + x ≤ capOf (termsIn terms j) d →
+    usedByGrower (alone m 0 []) (hoursOf (heldBy agreed)) 0 + x ≤ hours → Room (alone m hours terms) (heldBy agreed) d 0 j x
+room-is m hours terms agreed Tariff j x some room free = record { some = some; room = room; free = free }
+room-is m hours terms agreed Free j x some room free = record { some = some; room = room; free = free }
 
-module _ (t : Ticket) (price : ℕ → ℕ) (held : Held) (from : ℕ) where
-  pub none-asks-start : (0 < t .growers → from < t .growers) → NoneAsks t price held from 0
-  none-asks-start h = record { ahead = λ i a b c. absurd (omega arith); behind = λ i a b c. absurd (omega (arith, h (omega arith))) }
+-- the deal that a grower wants has room, by his rows
+pub room-alone : (m hours : ℕ) (terms : List Terms) (agreed : List Agreed) (d : Deal) (j : ℕ) →
+    hoursOf (heldBy agreed) d 0 j < cap (alone m hours terms) d 0 j → hoursIn (agreedIn agreed j) d < capOf (termsIn terms j) d
+room-alone m hours terms agreed Tariff j h = h
+room-alone m hours terms agreed Free j h = h
 
-  pub none-asks-more : (k i : ℕ) → i < t .growers → (from + k < t .growers → i ≡ from + k) →
-      (t .growers ≤ from + k → i + t .growers ≡ from + k) → AsksNothing t price held i →
-      NoneAsks t price held from k → NoneAsks t price held from (k + 1)
-  none-asks-more k i hi near far none all = record {
-    ahead = by-index (λ l. l < t .growers → from ≤ l → l < from + (k + 1) → AsksNothing t price held l) i (λ _ _ _. none)
-        (λ l ne a b c. all .ahead l a b (elim (decLt l (from + k)) [ yes p ↦ p | no p ↦ absurd (ne (omega (arith, near (omega arith)))) ]));
-    behind = by-index (λ l. l < t .growers → l < from → l + t .growers < from + (k + 1) → AsksNothing t price held l) i
-        (λ _ _ _. none)
-        (λ l ne a b c. all .behind l a b
-        (elim (decLt (l + t .growers) (from + k)) [ yes p ↦ p | no p ↦ absurd (ne (omega (arith, far (omega arith)))) ]));
-  }
+-- The k growers before grower i, and round from the last to the first, ask for nothing.
+pub record NoneAsks (t : Ticket) (price : ℕ → ℕ) (held : Held) (i k : ℕ) : Type 0 where
+  pub before : (l : ℕ) → l < t .growers → l < i → i ≤ l + k → AsksNothing t price held l
+  pub round : (l : ℕ) → l < t .growers → i ≤ l → i + t .growers ≤ l + k → AsksNothing t price held l
 
-  pub done-if-none-asks : (k : ℕ) → t .growers ≤ k → NoneAsks t price held from k → Done t price held
-  done-if-none-asks k h all = λ d i j hi hj free room. elim (decLt i from) [
-    | yes p ↦ all .behind i hi p (omega arith) d j hj free room
-    | no p ↦ all .ahead i hi (omega arith) (omega arith) d j hj free room
-  ]
+module _ (t : Ticket) (price : ℕ → ℕ) (held : Held) (i : ℕ) where
+  pub none-asks-start : NoneAsks t price held i 0
+  none-asks-start = record { before = λ l a b c. absurd (omega arith); round = λ l a b c. absurd (omega arith) }
+
+  module _ (k : ℕ) (all : NoneAsks t price held i k) where
+    pub none-asks-more : AsksNothing t price held i → NoneAsks t price held (i + 1) (k + 1)
+    none-asks-more none = record {
+      before = by-index (λ l. l < t .growers → l < i + 1 → i + 1 ≤ l + (k + 1) → AsksNothing t price held l) i (λ _ _ _. none)
+          (λ l ne a b c. all .before l a (omega arith) (omega arith));
+      round = λ l a b c. all .round l a (omega arith) (omega arith);
+    }
+
+    pub none-asks-round : i + 1 ≡ t .growers → AsksNothing t price held i → NoneAsks t price held 0 (k + 1)
+    none-asks-round last none = record {
+      before = λ l a b c. absurd (omega arith);
+      round = by-index (λ l. l < t .growers → 0 ≤ l → 0 + t .growers ≤ l + (k + 1) → AsksNothing t price held l) i (λ _ _ _. none)
+          (λ l ne a b c. all .before l a (omega arith) (omega arith));
+    }
+
+    pub done-if-none-asks : t .growers ≤ k → (0 < t .growers → i < t .growers) → Done t price held
+    done-if-none-asks h start = λ d l j hl hj free room. elim (decLt l i) [
+      | yes p ↦ all .before l hl p (omega (arith, start (omega arith))) d j hj free room
+      | no p ↦ all .round l hl (omega arith) (omega arith) d j hj free room
+    ]
 
 -- What a grower asks for alone, by his rows, he asks for among all.
 module _ (n m i : ℕ) (growerHours pilotHours : List ℕ) (terms : List (List Terms)) (prices : List ℕ) (square : List (List Agreed))
@@ -123,9 +144,8 @@ module _ (n m i : ℕ) (growerHours pilotHours : List ℕ) (terms : List (List T
   nothing-in a Tariff = a Tariff
   nothing-in a Free = a Free
 
-  pub asked-in : (best : Best) → Asked row (line prices) heldRow 0 best → Asked whole (line prices) held i best
-  asked-in Nothing a = nothing-in a
-  asked-in (Offer j Tariff) w = record {
+  wanted-in : (d : Deal) (j : ℕ) → Wanted row (line prices) heldRow d 0 j → Wanted whole (line prices) held d i j
+  wanted-in Tariff j w = record {
     grower = hi;
     pilot = w .pilot;
     free = w .free;
@@ -133,7 +153,7 @@ module _ (n m i : ℕ) (growerHours pilotHours : List ℕ) (terms : List (List T
     taken = w .taken;
     most = most-in (offer whole (line prices) Tariff i j) j (w .most);
   }
-  asked-in (Offer j Free) w = record {
+  wanted-in Free j w = record {
     grower = hi;
     pilot = w .pilot;
     free = w .free;
@@ -142,39 +162,10 @@ module _ (n m i : ℕ) (growerHours pilotHours : List ℕ) (terms : List (List T
     most = most-in (offer whole (line prices) Free i j) j (w .most);
   }
 
--- The search looks at no hours of pilots.
-module _ (n m : ℕ) (growerHours pilotHours : List ℕ) (terms : List (List Terms)) (price : ℕ → ℕ)
-    (held : Held) where
-  abbrev some : List ℕ → Ticket
-  some hours = ticket n m growerHours hours terms
+  room-in : (d : Deal) (j x : ℕ) → Room row heldRow d 0 j x → Room whole held d i j x
+  room-in Tariff j x r = record { some = r .some; room = r .room; free = r .free }
+  room-in Free j x r = record { some = r .some; room = r .room; free = r .free }
 
-  most-any : (v i : ℕ) → ((e : Deal) (l : ℕ) → l < m → hoursOf held e i l < cap (some []) e i l → offer (some []) price e i l ≤ v) →
-      (e : Deal) (l : ℕ) → l < m → hoursOf held e i l < cap (some pilotHours) e i l → offer (some pilotHours) price e i l ≤ v
-  most-any v i most Tariff = most Tariff
-  most-any v i most Free = most Free
-
-  wanted-any : (d : Deal) (i j : ℕ) → Wanted (some []) price held d i j → Wanted (some pilotHours) price held d i j
-  wanted-any Tariff i j w = record {
-    grower = w .grower;
-    pilot = w .pilot;
-    free = w .free;
-    room = w .room;
-    taken = w .taken;
-    most = most-any (offer (some pilotHours) price Tariff i j) i (w .most);
-  }
-  wanted-any Free i j w = record {
-    grower = w .grower;
-    pilot = w .pilot;
-    free = w .free;
-    room = w .room;
-    taken = w .taken;
-    most = most-any (offer (some pilotHours) price Free i j) i (w .most);
-  }
-
-  done-any : Done (some []) price held → Done (some pilotHours) price held
-  done-any w Tariff = w Tariff
-  done-any w Free = w Free
-
-  pub next-any : (next : Next) → NextIs (some []) price held next → NextIs (some pilotHours) price held next
-  next-any Finished w = done-any w
-  next-any (Serve place) w = wanted-any (place .deal) (place .grower) (place .pilot) w
+  pub asks-in : (asked : Request) → Asks row (line prices) heldRow 0 asked → Asks whole (line prices) held i asked
+  asks-in Content a = nothing-in a
+  asks-in (Hours j d x) a = (wanted-in d j (a .0), room-in d j x (a .1))

@@ -12,13 +12,13 @@ use Rattle.grid.proofs.Cases.{never, by-index}
 use Rattle.grid.specs.Pick.{pick}
 use Rattle.market.specs.declared.Deal.{Deal}
 use Rattle.market.specs.declared.Deal.the-variants.{Tariff, Free}
-use Rattle.market.specs.Market.{Ticket, cap, usedByPilot}
+use Rattle.market.specs.Market.{Ticket, cap}
 use Rattle.market.specs.Method.{Held, byTariff, oldFree, newFree, hoursOf, offer, worth}
 use Rattle.method.specs.declared.Terms.{Terms}
 use Rattle.method.specs.declared.Agreed.{Agreed}
 use Rattle.method.specs.View.{line, ticket, alone, heldIn, heldBy}
 use Rattle.method.specs.Choice.{chance}
-use Rattle.method.specs.Jumps.{among, WorthAtLeast, OffersAtMost, GrowerBears, PilotBears, GrowersBear, PilotsBear, TariffsBear, RaisedMarked, JumpFrom}
+use Rattle.method.specs.Jumps.{among, WorthAtLeast, OffersAtMost, GrowerBears, TariffsBear, GrowersBear, PilotsBear, RaisedMarked}
 
 pub not-both : {A : Type 0} (b : Bool) → b ≡ true → b ≡ false → A
 not-both b p q = let z : _≡_ {A = ℕ} 0 1 = cc in never z
@@ -117,110 +117,97 @@ module _ (t : Ticket) (chosen : ℕ → Bool) (price : ℕ → ℕ) (held : Held
     },
   )
 
--- The first k growers bear every rise of at most r.
-pub record FirstGrowersBear (t : Ticket) (chosen : ℕ → Bool) (price : ℕ → ℕ) (held : Held) (k r : ℕ) : Type 0 where
-  pub each : (i : ℕ) → i < k → GrowerBears t chosen price held i r
+module _ (t : Ticket) (chosen : ℕ → Bool) (price : ℕ → ℕ) (held : Held) (i : ℕ) where
+  pub tariffs-none : (r : ℕ) → TariffsBear t chosen price held i 0 r
+  tariffs-none r = record { each = λ x pos le j h. absurd (omega arith) }
 
-module _ (t : Ticket) (chosen : ℕ → Bool) (price : ℕ → ℕ) (held : Held) where
-  pub growers-none : (r : ℕ) → FirstGrowersBear t chosen price held 0 r
-  growers-none r = record { each = λ i h. absurd (omega arith) }
-
-  pub growers-more : (k r here r′ : ℕ) → r′ ≤ r → r′ ≤ here → GrowerBears t chosen price held k here →
-      FirstGrowersBear t chosen price held k r → FirstGrowersBear t chosen price held (k + 1) r′
-  growers-more k r here r′ a b g all = record {
-    each = by-index (λ i. i < k + 1 → GrowerBears t chosen price held i r′) k (λ _ x some le. g x some (omega arith))
-        (λ i ne h x some le. all .each i (omega arith) x some (omega arith));
+  pub tariffs-more : (k r r′ : ℕ) → r′ ≤ r →
+      (chosen k ≡ true → 0 < held byTariff i k → r′ ≤ 18 * t .tariffPay i k + 1 - price k) →
+      TariffsBear t chosen price held i k r → TariffsBear t chosen price held i (k + 1) r′
+  tariffs-more k r r′ a here b = record {
+    each = λ x pos le. by-index
+        (λ j. j < k + 1 → chosen j ≡ true → 0 < held byTariff i j → price j + x ≤ 18 * t .tariffPay i j + 1) k
+        (λ _ m h. omega (arith, here m h))
+        (λ j ne l m h. b .each x pos (omega arith) j (omega arith) m h);
   }
 
-  pub growers-end : (k r : ℕ) → t .growers ≤ k → FirstGrowersBear t chosen price held k r → GrowersBear t chosen price held r
-  growers-end k r e all = λ i h. all .each i (omega arith)
+  pub tariffs-end : (k l r : ℕ) → k ≡ l → TariffsBear t chosen price held i k r → TariffsBear t chosen price held i l r
+  tariffs-end k l r e b = rw (sym e) b
 
--- What a grower bears alone, by his rows, he bears among all, whatever hours everybody has.
+module _ (t : Ticket) (chosen : ℕ → Bool) (price : ℕ → ℕ) (held : Held) where
+  pub growers-none : (r : ℕ) → GrowersBear t chosen price held 0 r
+  growers-none r = record { grower = λ i h. absurd (omega arith); tariffs = λ i h. absurd (omega arith) }
+
+  -- every grower bears a rise of 0
+  pub growers-still : (k : ℕ) → GrowersBear t chosen price held k 0
+  growers-still k = record { grower = λ i h x pos le. absurd (omega arith); tariffs = λ i h. record { each = λ x pos le. absurd (omega arith) } }
+
+  -- what one grower and his tariff hours bear
+  pub growers-one : (r paid here : ℕ) → r ≤ paid → r ≤ here → TariffsBear t chosen price held 0 (t .pilots) paid →
+      GrowerBears t chosen price held 0 here → GrowersBear t chosen price held 1 r
+  growers-one r paid here a b tariffs grower = record {
+    grower = by-index (λ i. i < 1 → GrowerBears t chosen price held i r) 0 (λ _ x pos le. grower x pos (omega arith))
+        (λ i ne h. absurd (omega arith));
+    tariffs = by-index (λ i. i < 1 → TariffsBear t chosen price held i (t .pilots) r) 0
+        (λ _. record { each = λ x pos le. tariffs .each x pos (omega arith) }) (λ i ne h. absurd (omega arith));
+  }
+
+  pub growers-end : (k l r : ℕ) → k ≡ l → GrowersBear t chosen price held k r → GrowersBear t chosen price held l r
+  growers-end k l r e all = rw (sym e) all
+
+-- What a grower bears alone, by his rows, he bears among all; and what all bear, they bear whatever hours everybody has.
 module _ (n m : ℕ) (terms : List (List Terms)) (square : List (List Agreed)) (chosen : ℕ → Bool) (price : ℕ → ℕ) where
   abbrev some : List ℕ → List ℕ → Ticket
   some growerHours pilotHours = ticket n m growerHours pilotHours terms
 
-  pub grower-in : (i r : ℕ) → GrowerBears (alone m 0 (getD terms i [])) chosen price (heldBy (getD square i [])) 0 r →
-      GrowerBears (some [] []) chosen price (heldIn square) i r
-  grower-in i r b = λ x pos le.
-      let g = b x pos le in (
-        g .0,
-        record { old = g .1 .old; new = g .1 .new; standby = g .1 .standby; tariff = g .1 .tariff; free = g .1 .free },
-      )
-
-  pub growers-any : (growerHours pilotHours growerHours′ pilotHours′ : List ℕ) (r : ℕ) →
-      GrowersBear (some growerHours pilotHours) chosen price (heldIn square) r →
-      GrowersBear (some growerHours′ pilotHours′) chosen price (heldIn square) r
-  growers-any growerHours pilotHours growerHours′ pilotHours′ r b = λ i h x pos le.
-      let g = b i h x pos le in (
-        g .0,
-        record { old = g .1 .old; new = g .1 .new; standby = g .1 .standby; tariff = g .1 .tariff; free = g .1 .free },
-      )
-
-module _ (hours pay : ℕ → ℕ) (price : ℕ) where
-  pub tariffs-none : (r : ℕ) → r ≡ 1179631 - price → TariffsBear hours pay price 0 r
-  tariffs-none r e = record { below = λ x pos le. omega arith; tariff = λ x pos le i h. absurd (omega arith) }
-
-  pub tariffs-more : (k r r′ : ℕ) → r′ ≤ r → (0 < hours k → r′ ≤ 18 * pay k + 1 - price) → TariffsBear hours pay price k r →
-      TariffsBear hours pay price (k + 1) r′
-  tariffs-more k r r′ a here b = record {
-    below = λ x pos le. b .below x pos (omega arith);
-    tariff = λ x pos le. by-index (λ i. i < k + 1 → 0 < hours i → price + x ≤ 18 * pay i + 1) k
-        (λ _ h. omega (arith, here h))
-        (λ i ne l h. b .tariff x pos (omega arith) i (omega arith) h);
+  pub growers-more : (k r r′ : ℕ) → r′ ≤ r → GrowersBear (alone m 0 (getD terms k [])) chosen price (heldBy (getD square k [])) 1 r′ →
+      GrowersBear (some [] []) chosen price (heldIn square) k r → GrowersBear (some [] []) chosen price (heldIn square) (k + 1) r′
+  growers-more k r r′ le here all = record {
+    grower = by-index (λ i. i < k + 1 → GrowerBears (some [] []) chosen price (heldIn square) i r′) k
+        (λ _ x pos small.
+        let g = here .grower 0 (omega arith) x pos small in (
+          g .0,
+          record { old = g .1 .old; new = g .1 .new; standby = g .1 .standby; tariff = g .1 .tariff; free = g .1 .free },
+        ))
+        (λ i ne h x pos small. all .grower i (omega arith) x pos (omega arith));
+    tariffs = by-index (λ i. i < k + 1 → TariffsBear (some [] []) chosen price (heldIn square) i m r′) k
+        (λ _. record { each = here .tariffs 0 (omega arith) .each })
+        (λ i ne h. record { each = λ x pos small. all .tariffs i (omega arith) .each x pos (omega arith) });
   }
 
-  pub tariffs-end : (k l r : ℕ) → k ≡ l → TariffsBear hours pay price k r → TariffsBear hours pay price l r
-  tariffs-end k l r e b = rw (sym e) b
-
--- The chosen ones of the first k pilots bear every rise of at most r.
-pub record FirstPilotsBear (t : Ticket) (chosen : ℕ → Bool) (price : ℕ → ℕ) (held : Held) (k r : ℕ) : Type 0 where
-  pub each : (j : ℕ) → j < k → chosen j ≡ true → PilotBears t chosen price held j r
-
-module _ (t : Ticket) (chosen : ℕ → Bool) (price : ℕ → ℕ) (held : Held) where
-  pub pilot-bears : (j r : ℕ) → (0 < r → usedByPilot t (hoursOf held) j ≡ t .pilotHours j) →
-      TariffsBear (λ i. held byTariff i j) (λ i. t .tariffPay i j) (price j) (t .growers) r → PilotBears t chosen price held j r
-  pilot-bears j r full b = λ x pos le. record { full = full (omega arith); below = b .below x pos le; tariff = b .tariff x pos le }
-
-  pub pilots-none : (r : ℕ) → FirstPilotsBear t chosen price held 0 r
-  pilots-none r = record { each = λ j h. absurd (omega arith) }
-
-  pub pilots-marked : (k r here r′ : ℕ) → r′ ≤ r → r′ ≤ here → PilotBears t chosen price held k here →
-      FirstPilotsBear t chosen price held k r → FirstPilotsBear t chosen price held (k + 1) r′
-  pilots-marked k r here r′ a b p all = record {
-    each = by-index (λ j. j < k + 1 → chosen j ≡ true → PilotBears t chosen price held j r′) k (λ _ _ x pos le. p x pos (omega arith))
-        (λ j ne h m x pos le. all .each j (omega arith) m x pos (omega arith));
+  pub growers-any : (growerHours pilotHours : List ℕ) (r : ℕ) → GrowersBear (some [] []) chosen price (heldIn square) n r →
+      GrowersBear (some growerHours pilotHours) chosen price (heldIn square) n r
+  growers-any growerHours pilotHours r b = record {
+    grower = λ i h x pos le.
+        let g = b .grower i h x pos le in (
+          g .0,
+          record { old = g .1 .old; new = g .1 .new; standby = g .1 .standby; tariff = g .1 .tariff; free = g .1 .free },
+        );
+    tariffs = λ i h. record { each = b .tariffs i h .each };
   }
 
-  pub pilots-left : (k r r′ : ℕ) → chosen k ≡ false → r′ ≡ r → FirstPilotsBear t chosen price held k r →
-      FirstPilotsBear t chosen price held (k + 1) r′
-  pilots-left k r r′ left e all = rw e (record {
-    each = by-index (λ j. j < k + 1 → chosen j ≡ true → PilotBears t chosen price held j r) k
-        (λ _ m. not-both (chosen k) m left)
-        (λ j ne h. all .each j (omega arith));
-  })
+module _ (chosen : ℕ → Bool) (free price : ℕ → ℕ) where
+  pub pilots-none : (r : ℕ) → PilotsBear chosen free price 0 r
+  pilots-none r = record { full = λ pos j h. absurd (omega arith); below = λ x pos le j h. absurd (omega arith) }
 
-  pub pilots-end : (k r : ℕ) → t .pilots ≤ k → FirstPilotsBear t chosen price held k r → PilotsBear t chosen price held r
-  pilots-end k r e all = λ j h. all .each j (omega arith)
+  -- every pilot bears a rise of 0
+  pub pilots-still : (k : ℕ) → PilotsBear chosen free price k 0
+  pilots-still k = record { full = λ pos. absurd (omega arith); below = λ x pos le. absurd (omega arith) }
 
--- What a jump needs to be one; of size 0 it needs nothing.
-module _ (n m : ℕ) (pilotHours : List ℕ) (terms : List (List Terms)) (square : List (List Agreed)) (price : ℕ → ℕ) (j : ℕ)
-    (marks : List Bool) where
-  abbrev whole : Ticket
-  whole = ticket n m [] pilotHours terms
-
-  pub no-jump : JumpFrom whole price (heldIn square) j (record { pilots = marks; by = 0 })
-  no-jump = record {
-    here = λ h. absurd (omega arith);
-    growers = λ i h x pos le. absurd (omega arith);
-    pilots = λ l h m x pos le. absurd (omega arith);
+  pub pilots-less : (k r r′ : ℕ) → r′ ≤ r → PilotsBear chosen free price k r → PilotsBear chosen free price k r′
+  pilots-less k r r′ a all = record {
+    full = λ pos. all .full (omega arith);
+    below = λ x pos le. all .below x pos (omega arith);
   }
 
-  pub jump-made : (r s by : ℕ) → among marks j ≡ true → by ≤ r → by ≤ s → PilotsBear whole (among marks) price (heldIn square) r →
-      GrowersBear (ticket n m [] [] terms) (among marks) price (heldIn square) s →
-      JumpFrom whole price (heldIn square) j (record { pilots = marks; by = by })
-  jump-made r s by here a b p g = record {
-    here = λ _. here;
-    growers = λ i h x pos le. growers-any n m terms square (among marks) price [] [] [] pilotHours s g i h x pos (omega arith);
-    pilots = λ l h m x pos le. p l h m x pos (omega arith);
+  pub pilots-more : (k r r′ : ℕ) → r′ ≤ r → (chosen k ≡ true → free k ≡ 0) → (chosen k ≡ true → r′ ≤ 1179631 - price k) →
+      PilotsBear chosen free price k r → PilotsBear chosen free price (k + 1) r′
+  pilots-more k r r′ a none below all = record {
+    full = λ pos. by-index (λ j. j < k + 1 → chosen j ≡ true → free j ≡ 0) k (λ _ m. none m)
+        (λ j ne h. all .full (omega arith) j (omega arith));
+    below = λ x pos le. by-index (λ j. j < k + 1 → chosen j ≡ true → price j + x ≤ 1179631) k (λ _ m. omega (arith, below m))
+        (λ j ne h. all .below x pos (omega arith) j (omega arith));
   }
+
+  pub pilots-end : (k l r : ℕ) → k ≡ l → PilotsBear chosen free price k r → PilotsBear chosen free price l r
+  pilots-end k l r e all = rw (sym e) all

@@ -14,35 +14,20 @@ use Rattle.market.proofs.Jump.{step-jump, jump-falls}
 use Rattle.method.specs.declared.Terms.{Terms}
 use Rattle.method.specs.declared.Agreed.{Agreed}
 use Rattle.method.specs.View.{line, ticket, heldIn}
-use Rattle.method.specs.State.{Live, Turned}
+use Rattle.method.specs.State.{Live, FreeHours, Turned}
 use Rattle.method.specs.Jumps.{among, GrowersBear, PilotsBear, RaisedMarked}
 use Rattle.method.specs.Rises.{Jumps}
 use Rattle.method.proofs.JumpLaws.{growers-any}
 
--- What pilots bear does not depend on the growers' hours.
-module _ (n m : ℕ) (growerHours pilotHours : List ℕ) (terms : List (List Terms)) (chosen : ℕ → Bool)
-    (price : ℕ → ℕ) (held : Held) where
-  abbrev bare : Ticket
-  bare = ticket n m [] pilotHours terms
-
-  abbrev whole : Ticket
-  whole = ticket n m growerHours pilotHours terms
-
-  pilot-any : (x j : ℕ) → steps.JumpPilot bare chosen x price held 1179631 j → steps.JumpPilot whole chosen x price held 1179631 j
-  pilot-any x j p = record { full = p .full; below = p .below; tariff = p .tariff }
-
-  pub pilots-any : (r : ℕ) → PilotsBear bare chosen price held r → PilotsBear whole chosen price held r
-  pilots-any r p = λ j hj e x some most. pilot-any x j (p j hj e x some most)
-
 -- For each grower a bound of what the hours are worth.
 module _ (t : Ticket) (chosen : ℕ → Bool) (price : ℕ → ℕ) (held : Held) (x : ℕ) (some : 0 < x)
-    (growers : GrowersBear t chosen price held x) where
+    (growers : GrowersBear t chosen price held (t .growers) x) where
   abbrev low-if : (i : ℕ) → Dec (i < t .growers) → ℕ
-  low-if i (yes p) = growers i p x some (le-refl x) .0
+  low-if i (yes p) = growers .grower i p x some (le-refl x) .0
   low-if i (no p) = 0
 
   borne-if : (i : ℕ) → i < t .growers → (d : Dec (i < t .growers)) → steps.JumpGrower t chosen x price held i (low-if i d)
-  borne-if i hi (yes p) = growers i p x some (le-refl x) .1
+  borne-if i hi (yes p) = growers .grower i p x some (le-refl x) .1
   borne-if i hi (no p) = absurd (p hi)
 
   abbrev low : ℕ → ℕ
@@ -53,8 +38,8 @@ module _ (t : Ticket) (chosen : ℕ → Bool) (price : ℕ → ℕ) (held : Held
 
 module _ (t : Ticket) (prices prices′ : List ℕ) (held : List (List Agreed)) (live : Live t prices held) (j : ℕ) (hj : j < t .pilots)
     (marks : List Bool) (x : ℕ) (some : 0 < x) (here : among marks j ≡ true)
-    (growers : GrowersBear t (among marks) (line prices) (heldIn held) x)
-    (pilots : PilotsBear t (among marks) (line prices) (heldIn held) x)
+    (growers : GrowersBear t (among marks) (line prices) (heldIn held) (t .growers) x) (free : List ℕ) (hours : FreeHours t held free)
+    (pilots : PilotsBear (among marks) (line free) (line prices) (t .pilots) x)
     (up : RaisedMarked prices prices′ marks (t .pilots) x) where
   jump : steps.Jump t (among marks) x (line prices) (line prices′) (heldIn held)
       (low t (among marks) (line prices) (heldIn held) x some growers) 1179631
@@ -63,7 +48,11 @@ module _ (t : Ticket) (prices prices′ : List ℕ) (held : List (List Agreed)) 
       risen = λ l hl e. rw e at (up .price l hl);
       kept = λ l hl e. omega (arith, rw e at (up .price l hl));
     };
-    pilot = λ l hl e. pilots l hl e x some (le-refl x);
+    pilot = λ l hl e. record {
+      full = omega (arith, hours .each l hl, pilots .full some l hl e);
+      below = pilots .below x some (le-refl x) l hl e;
+      tariff = λ i hi h. growers .tariffs i hi .each x some (le-refl x) l hl e h;
+    };
     grower = borne t (among marks) (line prices) (heldIn held) x some growers;
   }
 
@@ -84,15 +73,14 @@ module _ (t : Ticket) (prices prices′ : List ℕ) (held : List (List Agreed)) 
 
 -- the pilot's price jumps
 module _ (n m : ℕ) (growerHours pilotHours : List ℕ) (terms : List (List Terms)) (prices prices′ : List ℕ) (held held′ : List (List Agreed))
-    (j : ℕ) (hj : j < m) where
+    (free : List ℕ) (j : ℕ) (hj : j < m) where
   pub turn-jump : Live (ticket n m growerHours pilotHours terms) prices held →
-      Jumps (ticket n m [] pilotHours terms) prices held prices′ held′ j →
+      FreeHours (ticket n m growerHours pilotHours terms) held free →
+      Jumps (ticket n m [] [] terms) (line free) prices held prices′ held′ j →
       Turned (ticket n m growerHours pilotHours terms) prices held prices′ held′
-  turn-jump live js =
+  turn-jump live hours js =
       rw (js .same)
       (jumped (ticket n m growerHours pilotHours terms) prices prices′ held live j hj
-      (js .jump .pilots) (js .jump .by) (js .some) (js .from .here (js .some))
-      (growers-any n m terms held (among (js .jump .pilots)) (line prices) [] pilotHours
-      growerHours pilotHours (js .jump .by) (js .from .growers))
-      (pilots-any n m growerHours pilotHours terms (among (js .jump .pilots)) (line prices)
-      (heldIn held) (js .jump .by) (js .from .pilots)) (js .raised))
+      (js .marks) (js .by) (js .some) (js .here)
+      (growers-any n m terms held (among (js .marks)) (line prices) growerHours pilotHours (js .by) (js .growers))
+      free hours (js .pilots) (js .raised))

@@ -5,6 +5,8 @@ pub mod Asking
 pub mod LateSearch
 pub mod HourChanges
 pub mod TurnLaws
+pub mod PilotHours
+pub mod Rounds
 pub mod EuroPrices
 pub mod Soundness
 pub mod JumpLaws

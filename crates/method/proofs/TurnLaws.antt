@@ -2,7 +2,7 @@
 -- Assumes nothing.
 use Prim.Native.Nat.{ℕ, _+_, _≤_, _<_}
 use mathlib.Core.Path.{_≡_, _∙_, ap}
-use mathlib.Core.List.{List, []}
+use mathlib.Core.List.{List}
 use native.Mathlib.Omega.{arith}
 use lib.ListN.{getD, set, length, length-set}
 use lib.Seq.{getD-set-same, getD-set-other}
@@ -16,13 +16,12 @@ use Rattle.market.proofs.Deals.{best-deal, not-late, below-top}
 use Rattle.market.proofs.Squares.{raised-of}
 use Rattle.market.proofs.Steps.{start, step-add, step-move, step-raise}
 use Rattle.market.proofs.Measure.{add-falls, move-falls, raise-falls}
-use Rattle.method.specs.declared.Terms.{Terms}
 use Rattle.method.specs.declared.Agreed.{Agreed}
-use Rattle.method.specs.View.{line, ticket, alone, heldIn, heldBy, hoursHeld, agreedAt, agreedIn, termsIn, noHours, hoursIn, capOf}
+use Rattle.method.specs.View.{line, heldIn, hoursHeld, agreedAt, noHours}
 use Rattle.method.specs.State.{Fit, Live, Turned}
 use Rattle.method.specs.Choice.{Wanted}
-use Rattle.method.specs.LateHours.{HasLate}
-use Rattle.method.specs.Changes.{Full, Room, Aged, Swap}
+use Rattle.method.specs.LateHours.{lateSlot, HasLate}
+use Rattle.method.specs.Changes.{Full, Aged}
 
 -- the free hours of a pair fit its cells
 pub free-hours-fit : (t : Ticket) (prices : List ℕ) (held : List (List Agreed)) → Fit t → Live t prices held → (i j : ℕ) →
@@ -35,28 +34,6 @@ pub room-fits : (t : Ticket) (held : List (List Agreed)) (d : Deal) (i j x : ℕ
     heldIn held (slotFor d) i j + x < 65536
 room-fits t held Tariff i j x fit h = omega (arith, fit .tariffCap i j)
 room-fits t held Free i j x fit h = omega (arith, fit .freeCap i j)
-
--- hours that a grower has free and his deal has room for
-pub room-is : (m hours : ℕ) (terms : List Terms) (agreed : List Agreed) (d : Deal) (j x : ℕ) → 0 < x →
-    hoursIn (agreedIn agreed j) d + x ≤ capOf (termsIn terms j) d →
-    usedByGrower (alone m 0 []) (hoursOf (heldBy agreed)) 0 + x ≤ hours → Room (alone m hours terms) (heldBy agreed) d 0 j x
-room-is m hours terms agreed Tariff j x some room free = record { some = some; room = room; free = free }
-room-is m hours terms agreed Free j x some room free = record { some = some; room = room; free = free }
-
--- What a grower's rows tell of his deal with pilot j, and what is found of them.
-module _ (n m i j : ℕ) (growerHours pilotHours : List ℕ) (terms : List (List Terms)) (held : List (List Agreed)) where
-  abbrev whole : Ticket
-  whole = ticket n m growerHours pilotHours terms
-
-  pub room-alone : (d : Deal) → hoursOf (heldIn held) d i j < cap whole d i j →
-      hoursIn (agreedIn (getD held i []) j) d < capOf (termsIn (getD terms i []) j) d
-  room-alone Tariff h = h
-  room-alone Free h = h
-
-  pub room-in : (d : Deal) (x : ℕ) → Room (alone m (getD growerHours i 0) (getD terms i [])) (heldBy (getD held i [])) d 0 j x →
-      Room whole (heldIn held) d i j x
-  room-in Tariff x r = record { some = r .some; room = r .room; free = r .free }
-  room-in Free x r = record { some = r .some; room = r .room; free = r .free }
 
 module _ (t : Ticket) (prices : List ℕ) (held : List (List Agreed)) (fit : Fit t) (live : Live t prices held) (d : Deal) (i j : ℕ)
     (want : Wanted t (line prices) (heldIn held) d i j) where
@@ -91,27 +68,26 @@ module _ (t : Ticket) (prices : List ℕ) (held : List (List Agreed)) (fit : Fit
     less = add-falls t (line prices) 1179631 hi hj some fresh fits (p .1);
   }
 
-  -- the pilot has a late hour
-  pub turn-move : (held′ : List (List Agreed)) (e : Deal) (k x : ℕ) → hoursOf (heldIn held) d i j + x ≤ cap t d i j →
-      usedByGrower t (hoursOf (heldIn held)) i + x ≤ t .growerHours i →
-      HasLate t (line prices) (heldIn held) e k j → Swap held held′ d i j e k x →
+  -- the pilot has late hours
+  pub turn-move : (between held′ : List (List Agreed)) (e : Deal) (k x y : ℕ) → 0 < x → hoursOf (heldIn held) d i j + x ≤ cap t d i j →
+      usedByGrower t (hoursOf (heldIn held)) i + x ≤ t .growerHours i → HasLate t (line prices) (heldIn held) e k j y →
+      Added (heldIn held) (heldIn between) (slotFor d) i j x → Full held′ × Added (heldIn held′) (heldIn between) (lateSlot e) k j x →
       Turned t prices held prices held′
-  turn-move held′ e k x room free v s = record {
+  turn-move between held′ e k x y some room free v put taken = record {
     live = record {
-      full = s .full;
+      full = taken .0;
       sixteen = live .sixteen;
       low = live .low;
-      inv = step-move hi (v .grower) hj (best (s .count) (omega (arith, s .most)) (omega (arith, s .most)))
-          (s .put) (s .taken) (live .inv);
+      inv = step-move hi (v .grower) hj (best x room free) put (taken .1) (live .inv);
     };
-    less = move-falls t (line prices) 1179631 hi (v .grower) hj (s .some) fresh (v .late) (s .put) (s .taken);
+    less = move-falls t (line prices) 1179631 hi (v .grower) hj some fresh (v .late) put (taken .1);
   }
 
   below : line prices j < 1179631
   below = below-top t (line prices) i j 1179631 d
       (omega (arith, fit .tariffPay i j)) (omega (arith, fit .jointGain i j)) (want .taken)
 
-  raised : (prices′ : List ℕ) (held′ : List (List Agreed)) → prices′ ≡ set prices j (getD prices j 0 + 1) → Aged held held′ j (t .growers) →
+  pub raised : (prices′ : List ℕ) (held′ : List (List Agreed)) → prices′ ≡ set prices j (getD prices j 0 + 1) → Aged held held′ j (t .growers) →
       Raised t (line prices) (line prices′) (heldIn held) (heldIn held′) j
   raised prices′ held′ e ag = raised-of
       (record {

@@ -5,13 +5,9 @@ use mathlib.Core.Path.{_≡_}
 use mathlib.Core.Logic.{_⊎_}
 use mathlib.Core.List.{List, []}
 use lib.ListN.{getD, set, length}
-use Rattle.market.specs.declared.Deal.{Deal}
-use Rattle.market.specs.Market.{Ticket, cap, usedByGrower}
-use Rattle.market.specs.Method.{Slot, Held, hoursOf, slotFor}
-use Rattle.market.specs.Steps.{Added}
+use Rattle.market.specs.Method.{Slot}
 use Rattle.method.specs.declared.Agreed.{Agreed}
-use Rattle.method.specs.View.{agreedAt, hoursHeld, heldIn}
-use Rattle.method.specs.LateHours.{lateSlot}
+use Rattle.method.specs.View.{agreedAt, hoursHeld}
 
 -- a square of 16 rows of 16 pairs
 pub record Full (held : List (List Agreed)) : Type 0 where
@@ -34,22 +30,6 @@ agedPair agreed = record {
   «old_free» = agreed .«old_free» + agreed .«new_free»;
   «new_free» = 0;
 }
-
--- x more hours are free for grower i, and have room in deal d with pilot j
-pub record Room (t : Ticket) (held : Held) (d : Deal) (i j x : ℕ) : Type 0 where
-  pub some : 0 < x
-  pub room : hoursOf held d i j + x ≤ cap t d i j
-  pub free : usedByGrower t (hoursOf held) i + x ≤ t .growerHours i
-
--- some hours, at most x, come into deal d of grower i and pilot j for as many late hours of the pilot in deal e with grower k
-pub record Swap (held held′ : List (List Agreed)) (d : Deal) (i j : ℕ) (e : Deal) (k x : ℕ) : Type 0 where
-  pub count : ℕ
-  pub between : List (List Agreed)
-  pub some : 0 < count
-  pub most : count ≤ x
-  pub put : Added (heldIn held) (heldIn between) (slotFor d) i j count
-  pub taken : Added (heldIn held′) (heldIn between) (lateSlot e) k j count
-  pub full : Full held′
 
 -- the new hours of pilot j and the first k growers have become old
 pub record Aged (held held′ : List (List Agreed)) (j k : ℕ) : Type 0 where

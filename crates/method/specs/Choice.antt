@@ -1,4 +1,4 @@
--- What the search for the next deal finds.
+-- What growers ask for.
 -- Assumes nothing.
 use Prim.Native.Nat.{ℕ, suc, _+_, _*_, _-_, _≤_, _<_}
 use mathlib.Core.Path.{_≡_}
@@ -6,13 +6,13 @@ use lib.Dec.{leb, ltb}
 use Rattle.grid.specs.Pick.{pick}
 use Rattle.market.specs.declared.Deal.{Deal}
 use Rattle.market.specs.Market.{Ticket, cap, usedByGrower}
-use Rattle.market.specs.Method.{Held, hoursOf, offer, Done}
+use Rattle.market.specs.Method.{Held, hoursOf, offer}
 use Rattle.method.specs.declared.Terms.{Terms}
 use Rattle.method.specs.declared.Agreed.{Agreed}
 use Rattle.method.specs.declared.Best.{Best}
 use Rattle.method.specs.declared.Best.the-variants.{Nothing, Offer}
-use Rattle.method.specs.declared.Next.{Next}
-use Rattle.method.specs.declared.Next.the-variants.{Finished, Serve}
+use Rattle.method.specs.declared.Request.{Request}
+use Rattle.method.specs.declared.Request.the-variants.{Content, Hours}
 
 -- what a deal of grower i offers, if it is below its cap, else 0
 abbrev pub chance : Ticket → (ℕ → ℕ) → Held → ℕ → Deal → ℕ → ℕ
@@ -47,12 +47,13 @@ abbrev pub AsksNothing : Ticket → (ℕ → ℕ) → Held → ℕ → Type 0
 AsksNothing t price held i = (d : Deal) (j : ℕ) → j < t .pilots → usedByGrower t (hoursOf held) i < t .growerHours i →
     hoursOf held d i j < cap t d i j → offer t price d i j ≤ 18 * t .growerStandby i
 
--- what grower i asks for
-abbrev pub Asked : Ticket → (ℕ → ℕ) → Held → ℕ → Best → Type 0
-Asked t price held i Nothing = AsksNothing t price held i
-Asked t price held i (Offer j d) = Wanted t price held d i j
+-- x more hours are free for grower i, and have room in deal d with pilot j
+pub record Room (t : Ticket) (held : Held) (d : Deal) (i j x : ℕ) : Type 0 where
+  pub some : 0 < x
+  pub room : hoursOf held d i j + x ≤ cap t d i j
+  pub free : usedByGrower t (hoursOf held) i + x ≤ t .growerHours i
 
--- the deal to serve next, or the end of the method
-abbrev pub NextIs : Ticket → (ℕ → ℕ) → Held → Next → Type 0
-NextIs t price held Finished = Done t price held
-NextIs t price held (Serve place) = Wanted t price held (place .deal) (place .grower) (place .pilot)
+-- what grower i asks for
+abbrev pub Asks : Ticket → (ℕ → ℕ) → Held → ℕ → Request → Type 0
+Asks t price held i Content = AsksNothing t price held i
+Asks t price held i (Hours j d x) = Wanted t price held d i j × Room t held d i j x

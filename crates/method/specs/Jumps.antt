@@ -8,11 +8,10 @@ use lib.ListN.{getD, length}
 use Rattle.grid.specs.Pick.{pick}
 use Rattle.market.specs.declared.Deal.the-variants.{Tariff, Free}
 use Rattle.market.specs.Market.{Ticket}
-use Rattle.market.specs.Method.{Held, oldFree, newFree, worth}
-use Rattle.market.specs.Steps.{JumpPilot, JumpGrower}
+use Rattle.market.specs.Method.{Held, byTariff, oldFree, newFree, worth}
+use Rattle.market.specs.Steps.{JumpGrower}
 use Rattle.method.specs.View.{line}
 use Rattle.method.specs.Choice.{chance}
-use Rattle.method.specs.declared.Jump.{Jump}
 
 -- the pilots that are marked
 abbrev pub among : List Bool → ℕ → Bool
@@ -30,33 +29,26 @@ module _ (t : Ticket) (chosen : ℕ → Bool) (price : ℕ → ℕ) (held : Held
     pub tariff : (l : ℕ) → l < k → chance t price held i Tariff l ≤ top
     pub free : (l : ℕ) → l < k → chosen l ≡ false → chance t price held i Free l ≤ top
 
-  -- grower i, and pilot j, bear every rise of at most r
+  -- grower i bears every rise of at most r
   abbrev pub GrowerBears : ℕ → ℕ → Type 0
   GrowerBears i r = (x : ℕ) → 0 < x → x ≤ r → (low : ℕ) × JumpGrower t chosen x price held i low
 
-  abbrev pub PilotBears : ℕ → ℕ → Type 0
-  PilotBears j r = (x : ℕ) → 0 < x → x ≤ r → JumpPilot t chosen x price held 1179631 j
+  -- so do his tariff hours with the chosen ones of the first k pilots: they pay at least the price then, or one eighteenth less
+  pub record TariffsBear (i k r : ℕ) : Type 0 where
+    pub each : (x : ℕ) → 0 < x → x ≤ r → (j : ℕ) → j < k → chosen j ≡ true → 0 < held byTariff i j →
+        price j + x ≤ 18 * t .tariffPay i j + 1
 
-  abbrev pub GrowersBear : ℕ → Type 0
-  GrowersBear r = (i : ℕ) → i < t .growers → GrowerBears i r
+  -- the first k growers and their tariff hours do
+  pub record GrowersBear (k r : ℕ) : Type 0 where
+    pub grower : (i : ℕ) → i < k → GrowerBears i r
+    pub tariffs : (i : ℕ) → i < k → TariffsBear i (t .pilots) r
 
-  -- the chosen ones do
-  abbrev pub PilotsBear : ℕ → Type 0
-  PilotsBear r = (j : ℕ) → j < t .pilots → chosen j ≡ true → PilotBears j r
-
--- A pilot with this price, these tariff hours with each of the first k growers and these amounts of pay for them bears every rise of
--- at most r: an hour pays at least the price then, or one eighteenth less.
-pub record TariffsBear (hours pay : ℕ → ℕ) (price k r : ℕ) : Type 0 where
-  pub below : (x : ℕ) → 0 < x → x ≤ r → price + x ≤ 1179631
-  pub tariff : (x : ℕ) → 0 < x → x ≤ r → (i : ℕ) → i < k → 0 < hours i → price + x ≤ 18 * pay i + 1
+-- the chosen ones of the first k pilots bear every rise of at most r: they have no free hour, and no price rises above 1179631
+pub record PilotsBear (chosen : ℕ → Bool) (free price : ℕ → ℕ) (k r : ℕ) : Type 0 where
+  pub full : 0 < r → (j : ℕ) → j < k → chosen j ≡ true → free j ≡ 0
+  pub below : (x : ℕ) → 0 < x → x ≤ r → (j : ℕ) → j < k → chosen j ≡ true → price j + x ≤ 1179631
 
 -- the prices after a rise by x of the marked ones of the first k pilots
 pub record RaisedMarked (prices prices′ : List ℕ) (marks : List Bool) (k x : ℕ) : Type 0 where
   pub sixteen : length prices′ ≡ 16
   pub price : (j : ℕ) → j < k → line prices′ j ≡ line prices j + pick (among marks j) x 0
-
--- a jump that all bear and that lifts pilot j; none, if its size is 0
-pub record JumpFrom (t : Ticket) (price : ℕ → ℕ) (held : Held) (j : ℕ) (jump : Jump) : Type 0 where
-  pub here : 0 < jump .by → among (jump .pilots) j ≡ true
-  pub growers : GrowersBear t (among (jump .pilots)) price held (jump .by)
-  pub pilots : PilotsBear t (among (jump .pilots)) price held (jump .by)

@@ -1,11 +1,11 @@
 -- A ticket that can be settled, and what holds of the state of the method: the prices and the square of held hours.
 -- Assumes nothing.
-use Prim.Native.Nat.{ℕ, _≤_, _<_}
+use Prim.Native.Nat.{ℕ, _+_, _≤_, _<_}
 use mathlib.Core.Path.{_≡_}
 use mathlib.Core.List.{List}
 use lib.ListN.{length}
-use Rattle.market.specs.Market.{Ticket}
-use Rattle.market.specs.Method.{Invariant, Done}
+use Rattle.market.specs.Market.{Ticket, usedByPilot}
+use Rattle.market.specs.Method.{hoursOf, Invariant, Done}
 use Rattle.market.specs.Steps.{measure}
 use Rattle.method.specs.declared.Agreed.{Agreed}
 use Rattle.method.specs.View.{line, heldIn}
@@ -28,6 +28,11 @@ pub record Live (t : Ticket) (prices : List ℕ) (held : List (List Agreed)) : T
   pub sixteen : length prices ≡ 16
   pub low : (j : ℕ) → j < t .pilots → line prices j ≤ 1179631
   pub inv : Invariant t (line prices) (heldIn held)
+
+-- the hours that pilots have free
+pub record FreeHours (t : Ticket) (held : List (List Agreed)) (free : List ℕ) : Type 0 where
+  pub sixteen : length free ≡ 16
+  pub each : (j : ℕ) → j < t .pilots → usedByPilot t (hoursOf (heldIn held)) j + line free j ≡ t .pilotHours j
 
 -- what is left to do; 1179631 is above 18 times every amount
 abbrev pub leftToDo : Ticket → List ℕ → List (List Agreed) → ℕ

@@ -3,13 +3,10 @@ ghost use mathlib.Core.Path.{_≡_};
 ghost use Prim.Native.Nat.{ℕ, _+_, _<_, _≤_};
 ghost use lib.ListN.{getD, set};
 ghost use Rattle.market.specs.Method.{slotFor};
-ghost use Rattle.method.specs.View.{heldIn, hoursHeld, agreedAt};
+ghost use Rattle.method.specs.View.{hoursHeld, agreedAt};
 ghost use Rattle.method.specs.LateHours.{lateSlot};
-ghost use Rattle.method.specs.Changes.{Full, MoreHeld, agedPair, Aged, Swap};
+ghost use Rattle.method.specs.Changes.{Full, MoreHeld, agedPair, Aged};
 use crate::Agreed;
-use crate::late::late_count;
-use crate::numbers::least;
-use crate::numbers::narrow;
 use market::Deal;
 
 // The hours of a pair when x more come into a deal; in the free deal they are new.
@@ -32,7 +29,7 @@ pub(crate) fn more(agreed: Agreed, deal: Deal, x: u16) -> Agreed
 }
 
 // The hours of a pair when x late ones leave a deal.
-fn fewer(agreed: Agreed, deal: Deal, x: u16) -> Agreed
+pub(crate) fn fewer(agreed: Agreed, deal: Deal, x: u16) -> Agreed
     requires { ⌜ x ≤ hoursHeld agreed (lateSlot deal) ⌝ }
     ensures { λ r. ⌜ MoreHeld r agreed (lateSlot deal) x ⌝ }
 {
@@ -48,27 +45,6 @@ fn fewer(agreed: Agreed, deal: Deal, x: u16) -> Agreed
             new_free: agreed.new_free,
         },
     }
-}
-
-// At most x hours come into a deal of grower i and pilot j, and as many late hours of the pilot leave a deal with grower `giver`.
-pub(crate) fn swap_hours(
-    held: [[Agreed; 16]; 16],
-    deal: Deal,
-    i: usize,
-    j: usize,
-    given: Deal,
-    giver: usize,
-    x: u32,
-) -> [[Agreed; 16]; 16]
-    requires { ⌜ Full held × (i < 16) × (j < 16) × (giver < 16) × (0 < x) × (heldIn held (slotFor deal) i j + x < 65536) ⌝ }
-    requires { ⌜ 0 < heldIn held (lateSlot given) giver j ⌝ }
-    ensures { λ r. ⌜ Swap held r deal i j given giver x ⌝ }
-{
-    let count = narrow(least(x, late_count(held[giver][j], given)));
-    let mut next = held;
-    next[i][j] = more(next[i][j], deal, count);
-    next[giver][j] = fewer(next[giver][j], given, count);
-    next
 }
 
 // The hours of a pair when the new ones have become old.

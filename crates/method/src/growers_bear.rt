@@ -2,19 +2,18 @@
 ghost use mathlib.Core.Path.{_≡_};
 ghost use Prim.Native.Nat.{suc, _*_, _-_, _<_, _≤_};
 ghost use mathlib.Core.Bool.{true, false};
-ghost use mathlib.Core.List.{[]};
-ghost use Rattle.method.specs.View.{line, ticket, alone, heldIn, heldBy};
+ghost use Rattle.method.specs.View.{line, alone, heldBy};
 ghost use Rattle.method.specs.Choice.{tariffChance, freeChance};
 ghost use Rattle.method.specs.Jumps.{among, WorthAtLeast, OffersAtMost, GrowerBears, GrowersBear};
 use crate::Agreed;
 use crate::Terms;
-use crate::numbers::TOP;
 use crate::numbers::least;
 use crate::numbers::less;
 use crate::numbers::most;
 use crate::numbers::wide;
 use crate::offers::free_chance;
 use crate::offers::tariff_chance;
+use crate::pilots_bear::tariff_slack;
 
 // More than any hour is worth.
 const MANY: u32 = 2000000;
@@ -101,21 +100,21 @@ fn grower_slack(
     )
 }
 
-// What all growers bear.
-pub(crate) fn growers_slack(
-    growers: usize,
-    pilots: usize,
-    terms: [[Terms; 16]; 16],
+// At most `most`, and what a grower and his tariff hours bear.
+pub(crate) fn row_slack(
+    terms: [Terms; 16],
+    agreed: [Agreed; 16],
     price: &[u32; 16],
-    held: [[Agreed; 16]; 16],
+    pilots: usize,
     marks: [bool; 16],
+    most: u32,
 ) -> u32
-    requires { ⌜ (growers ≤ 16) × (pilots ≤ 16) ⌝ }
-    ensures { λ r. ⌜ GrowersBear (ticket growers pilots [] [] terms) (among marks) (line (now (price .entry))) (heldIn held) r ⌝ }
+    requires { ⌜ pilots ≤ 16 ⌝ }
+    ensures { λ r. ⌜ (r ≤ most) × GrowersBear (alone pilots 0 terms) (among marks) (line (now (price .entry))) (heldBy agreed) 1 r ⌝ }
 {
-    let mut by = TOP;
-    for i in 0..growers {
-        by = least(by, grower_slack(terms[i], held[i], price, pilots, marks));
+    if most == 0 {
+        return 0;
     }
-    by
+    let paid = tariff_slack(terms, agreed, price, pilots, marks, most);
+    least(paid, grower_slack(terms, agreed, price, pilots, marks))
 }

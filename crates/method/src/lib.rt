@@ -1,16 +1,17 @@
 // The method that settles a market. Growers propose, pilots keep the best offers, prices rise in eighteenths of a euro, and one
 // rounding at the end makes them whole euros. What a pair has in the ticket, the hours it holds and what it flies in the end stand in
-// squares of growers by pilots, which go by value. The state is a row of prices and the square of the hours held.
+// squares of growers by pilots, which go by value. The state is a row of prices, the square of the hours held and a row of free hours.
 mod changes;
 mod choice;
 mod finish;
 mod growers_bear;
-mod hours;
 mod jumps;
 mod late;
 mod numbers;
 mod offers;
 mod pilots_bear;
+mod requests;
+mod rises;
 mod ties;
 mod turns;
 
@@ -44,35 +45,22 @@ pub(crate) struct Agreed {
     pub(crate) new_free: u16,
 }
 
-// One deal of a ticket.
-pub(crate) struct Place {
-    pub(crate) grower: usize,
-    pub(crate) pilot: usize,
-    pub(crate) deal: Deal,
-}
-
 // The deal that offers a grower most: with which pilot, and which of their deals.
 pub(crate) enum Best {
     Nothing,
     Offer(usize, Deal),
 }
 
-// The deal to serve next, if any grower with a free hour has an open one.
-pub(crate) enum Next {
-    Finished,
-    Serve(Place),
+// What a grower asks for: hours of the deal that offers him most, with which pilot, which of their deals, and how many.
+pub(crate) enum Request {
+    Content,
+    Hours(usize, Deal, u16),
 }
 
-// A late hour of a pilot: with which grower, and in which of their deals.
-pub(crate) enum LateHour {
-    NoHour,
-    Hour(usize, Deal),
-}
-
-// A rise of several prices at once: of which pilots, and by how much.
-pub(crate) struct Jump {
-    pub(crate) pilots: [bool; 16],
-    pub(crate) by: u32,
+// Late hours of a pilot with one grower: in which of their deals, and how many.
+pub(crate) enum LateHours {
+    NoHours,
+    Hours(Deal, u16),
 }
 
 // A sound settlement of the market of the first growers and pilots, at most 16 of each, whatever their hours, caps and amounts.

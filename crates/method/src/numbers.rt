@@ -31,6 +31,12 @@ pub(crate) fn least(x: u32, y: u32) -> u32
     if x < y { x } else { y }
 }
 
+pub(crate) fn fewest(x: u16, y: u16) -> u16
+    ensures { λ r. ⌜ (r ≤ x) × (r ≤ y) × (0 < x → 0 < y → 0 < r) ⌝ }
+{
+    if x < y { x } else { y }
+}
+
 pub(crate) fn most(x: u32, y: u32) -> u32
     ensures { λ r. ⌜ (x ≤ r) × (y ≤ r) ⌝ }
 {

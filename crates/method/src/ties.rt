@@ -7,7 +7,7 @@ use crate::numbers::less;
 use crate::offers::free_chance;
 
 // The marked pilots, and every pilot whose free deal offers the grower as much as his least free hour with a marked one, or one less.
-fn tie_in(
+pub(crate) fn tie_in(
     terms: [Terms; 16],
     agreed: [Agreed; 16],
     price: &[u32; 16],
@@ -26,27 +26,8 @@ fn tie_in(
     tied
 }
 
-// Pilots that one grower after another ties to the marked ones.
-fn tie_round(
-    growers: usize,
-    pilots: usize,
-    terms: [[Terms; 16]; 16],
-    price: &[u32; 16],
-    held: [[Agreed; 16]; 16],
-    from: [bool; 16],
-) -> [bool; 16]
-    requires { ⌜ (growers ≤ 16) × (pilots ≤ 16) ⌝ }
-{
-    let mut marks = from;
-    for i in 0..growers {
-        let next = tie_in(terms[i], held[i], price, pilots, marks);
-        marks = next;
-    }
-    marks
-}
-
 // Whether two rows of marks are the same.
-fn same_marks(one: [bool; 16], other: [bool; 16]) -> bool {
+pub(crate) fn same_marks(one: [bool; 16], other: [bool; 16]) -> bool {
     for j in 0..16usize {
         if one[j] != other[j] {
             return false;
@@ -55,32 +36,10 @@ fn same_marks(one: [bool; 16], other: [bool; 16]) -> bool {
     true
 }
 
-fn only(j: usize) -> [bool; 16]
+pub(crate) fn only(j: usize) -> [bool; 16]
     requires { ⌜ j < 16 ⌝ }
 {
     let mut marks = [false; 16];
     marks[j] = true;
-    marks
-}
-
-// Pilot j, and the pilots tied to him over growers: in rounds, to one that ties nobody.
-pub(crate) fn tied(
-    growers: usize,
-    pilots: usize,
-    terms: [[Terms; 16]; 16],
-    price: &[u32; 16],
-    held: [[Agreed; 16]; 16],
-    j: usize,
-) -> [bool; 16]
-    requires { ⌜ (growers ≤ 16) × (pilots ≤ 16) × (j < 16) ⌝ }
-{
-    let mut marks = only(j);
-    for round in 0..pilots {
-        let next = tie_round(growers, pilots, terms, price, held, marks);
-        if same_marks(marks, next) {
-            return next;
-        }
-        marks = next;
-    }
     marks
 }

@@ -1,253 +1,226 @@
 -- `method::turns::run` meets its contract.
 -- Assumes nothing.
-use Prim.Native.Nat.{_+_, _<_}
-use mathlib.Core.Path.{refl}
+use Prim.Native.Nat.{ℕ, _-_, _≤_, _<_}
+use mathlib.Core.Path.{_≡_, refl, sym}
+use mathlib.Core.List.{List}
 use mathlib.Core.Logic.{⊎-elim}
 use native.Mathlib.Omega.{arith}
 use Rattle.market.specs.Method.{slotFor}
+use Rattle.market.specs.Steps.{Added}
+use Rattle.market.proofs.Adding.{never-less}
+use Rattle.market.proofs.Steps.{raised-used}
+use Rattle.method.specs.declared.Request.the-variants.{Hours}
+use Rattle.method.specs.declared.Agreed.{Agreed}
 use Rattle.method.specs.View.{line, ticket, heldIn}
-use Rattle.method.specs.State.{Live, Turned, leftToDo}
-use Rattle.method.specs.Choice.{Wanted}
-use Rattle.method.specs.declared.LateHour.the-variants.{NoHour, Hour}
-use Rattle.method.specs.Changes.{Room, putCell}
-use Rattle.method.proofs.Asking.{next-any}
-use Rattle.method.proofs.LateSearch.{late-any}
-use Rattle.method.proofs.HourChanges.{put-more}
-use Rattle.method.proofs.TurnLaws.{free-hours-fit, room-fits, room-alone, room-in, turn-add, turn-move, turn-raise, live-start}
+use Rattle.method.specs.State.{FreeHours, Turned}
+use Rattle.method.specs.Choice.{Asks}
+use Rattle.method.specs.LateHours.{lateSlot, HasLate}
+use Rattle.method.specs.Changes.{Full, putCell}
+use Rattle.method.proofs.Asking.{asks-in}
+use Rattle.method.proofs.LateSearch.{NoneLate, none-late-start, none-late-more, no-late-hour, late-hours-found}
+use Rattle.method.proofs.HourChanges.{put-more, put-fewer}
+use Rattle.method.proofs.TurnLaws.{free-hours-fit, room-fits, turn-add, turn-move, turn-raise, raised, live-start}
+use Rattle.method.proofs.PilotHours.{free-start, free-added, free-moved, free-kept}
+use Rattle.method.proofs.Rounds.{Working, left, work-starts, next-grower, work-ends, left-less}
 use Rattle.method.proofs.JumpTurns.{turn-jump}
 use borrow.Author.Needs.{needs}
 use Rattle.method.proofs.turns.run.Statement.{statement}
 use Rattle.method.proofs.turns.run.Tie as tie
 
+abbrev Inv-turns : tie.InvT-turns
+Inv-turns growers pilots price₀ grower-hours terms held₀ pilot-hours i₀ k₀ price held free i k = Working (ticket growers pilots grower-hours pilot-hours terms) price held free i k
+
+abbrev μ-turns : tie.MeasureT-turns
+μ-turns growers pilots price₀ grower-hours terms held₀ pilot-hours i₀ k₀ price held free i k = left (ticket growers pilots grower-hours pilot-hours terms) price held k
+
 abbrev Inv-loop : tie.InvT-loop
-Inv-loop growers pilots price₀ grower-hours pilot-hours terms held₀ from₀ price held from = Live (ticket growers pilots grower-hours pilot-hours terms) price held × (0 < growers → from < growers)
+Inv-loop growers pilots price grower-hours terms held₀ free i k j deal most spare giver₀ held giver = (held ≡ held₀) × (giver ≤ growers) × NoneLate terms (line price j) held₀ j giver
 
 abbrev μ-loop : tie.MeasureT-loop
-μ-loop growers pilots price₀ grower-hours pilot-hours terms held₀ from₀ price held from = leftToDo (ticket growers pilots grower-hours pilot-hours terms) price held
+μ-loop growers pilots price grower-hours terms held₀ free i k j deal most spare giver₀ held giver = growers - giver
 
--- the deal to serve
-want : (c : tie.After-next Inv-loop μ-loop) → let a = c .before .before .before .before .before .before .args in
-    let l = c .before .before .before .before .loop in let p = c .next .given .0 .0 in
-    Wanted (ticket (a .growers) (a .pilots) (a .t3) (a .t4) (a .t5)) (line (l .price)) (heldIn (l .held)) (p .deal) (p .grower) (p .pilot)
-want c =
-    let a = c .before .before .before .before .before .before .args in
-    let l = c .before .before .before .before .loop in
-    rw (c .next .given .1) at
-    (next-any (a .growers) (a .pilots) (a .t3) (a .t4) (a .t5) (line (l .price)) (heldIn (l .held))
-    (c .before .before .next-deal .result) (c .before .before .next-deal .ensures))
+-- the grower who is asked
+grower : (c : tie.In-turns Inv-loop μ-loop Inv-turns μ-turns) → c .before .turns .i < c .before .before .before .args .growers
+grower c = c .before .turns .inv .start (omega arith)
 
-grower-small : (c : tie.After-next Inv-loop μ-loop) → c .next .given .0 .0 .grower < 16
-grower-small c = omega (arith, want c .grower, c .before .before .before .before .before .before .pre .0 .growers)
+grower-small : (c : tie.In-turns Inv-loop μ-loop Inv-turns μ-turns) → c .before .turns .i < 16
+grower-small c = omega (arith, grower c, c .before .before .before .pre .0 .growers)
 
-pilot-small : (c : tie.After-next Inv-loop μ-loop) → c .next .given .0 .0 .pilot < 16
-pilot-small c = omega (arith, want c .pilot, c .before .before .before .before .before .before .pre .0 .pilots)
+-- what the grower asks for
+asks : (c : tie.After-request Inv-loop μ-loop Inv-turns μ-turns) → let a = c .before .before .before .before .before .before .before .args in let l = c .before .before .before .before .before .turns in
+    Asks (ticket (a .growers) (a .pilots) (a .t3) (a .pilot-hours) (a .t5)) (line (l .price)) (heldIn (l .held)) (c .before .before .before .before .before .turns .i) (c .request .result)
+asks c = let a = c .before .before .before .before .before .before .before .args in let l = c .before .before .before .before .before .turns in
+    asks-in (a .growers) (a .pilots) (c .before .before .before .before .before .turns .i) (a .t3) (a .pilot-hours) (a .t5) (l .price) (l .held) (grower (c .before .before .before .before)) (c .request .result) (c .request .ensures)
 
--- the hours that the deal could get have room
-has-room : (c : tie.After-most-hours Inv-loop μ-loop) →
-    let a = c .before .before .before .before .before .before .before .before .before .before .args in
-    let l = c .before .before .before .before .before .before .before .before .loop in
-    let p = c .before .before .before .before .next .given .0 .0 in
-    Room (ticket (a .growers) (a .pilots) (a .t3) (a .t4) (a .t5)) (heldIn (l .held)) (p .deal) (p .grower) (p .pilot) (c .most-hours .result)
-has-room c =
-    let a = c .before .before .before .before .before .before .before .before .before .before .args in
-    let l = c .before .before .before .before .before .before .before .before .loop in
-    let p = c .before .before .before .before .next .given .0 .0 in
-    room-in (a .growers) (a .pilots) (p .grower) (p .pilot) (a .t3) (a .t4) (a .t5) (l .held) (p .deal) (c .most-hours .result)
-    (c .most-hours .ensures)
+want : (c : tie.After-asked Inv-loop μ-loop Inv-turns μ-turns) → let a = c .before .before .before .before .before .before .before .before .before .args in let l = c .before .before .before .before .before .before .before .turns in let g = c .asked .given .0 in
+    Asks (ticket (a .growers) (a .pilots) (a .t3) (a .pilot-hours) (a .t5)) (line (l .price)) (heldIn (l .held)) (c .before .before .before .before .before .before .before .turns .i) (Hours (g .0) (g .1 .0) (g .1 .1 .0))
+want c = rw (c .asked .given .1) at (asks (c .before .before))
 
-room-small : (c : tie.After-most-hours Inv-loop μ-loop) →
-    let l = c .before .before .before .before .before .before .before .before .loop in
-    let p = c .before .before .before .before .next .given .0 .0 in
-    heldIn (l .held) (slotFor (p .deal)) (p .grower) (p .pilot) + c .most-hours .result < 65536
-room-small c =
-    let s = c .before .before .before .before .before .before .before .before .before .before in
-    let l = c .before .before .before .before .before .before .before .before .loop in
-    let p = c .before .before .before .before .next .given .0 .0 in
-    room-fits _ (l .held) (p .deal) (p .grower) (p .pilot) _ (s .pre .0) (has-room c .room)
+pilot-small : (c : tie.After-asked Inv-loop μ-loop Inv-turns μ-turns) → c .asked .given .0 .0 < 16
+pilot-small c = omega (arith, want c .0 .pilot, c .before .before .before .before .before .before .before .before .before .pre .0 .pilots)
 
--- the turn, with hours added
-added : (c : tie.After-more Inv-loop μ-loop) → let s = c .before .before .before .before .before .before .before .before .before .before .before .before .before .before .before .before .before .before in let a = s .args in let l = c .before .before .before .before .before .before .before .before .before .before .before .before .before .before .before .before .loop in let p = c .before .before .before .before .before .before .before .before .before .before .before .before .next .given .0 .0 in
-    Turned (ticket (a .growers) (a .pilots) (a .t3) (a .t4) (a .t5)) (l .price) (l .held)
-    (l .price) (putCell (l .held) (p .grower) (p .pilot) (c .more .result))
-added c =
-    let s = c .before .before .before .before .before .before .before .before .before .before .before .before .before .before .before .before .before .before in
-    let l = c .before .before .before .before .before .before .before .before .before .before .before .before .before .before .before .before .loop in
-    let h = has-room (c .before .before .before .before .before .before .before .before) in
-    let e = c .before .before .least .ensures in
-    let n = c .before .narrow .ensures in
-    turn-add _ _ _ (s .pre .0) (l .inv .0) _ _ _ (want (c .before .before .before .before .before .before .before .before .before .before .before .before)) _ _ (omega (arith, n, e .2 (h .some) (c .before .before .before .before .if1 .taken)))
-    (omega (arith, n, e .0, h .room)) (omega (arith, n, e .0, h .free))
-    (omega (arith, n, e .1, c .before .before .before .before .before .less .ensures, c .before .before .before .before .before .before .used-by-pilot .ensures, c .before .before .before .before .before .before .before .wide .ensures .0, c .before .before .before .before .if1 .taken))
-    (put-more _ (l .inv .0 .full) _ _ _ (grower-small (c .before .before .before .before .before .before .before .before .before .before .before .before)) (pilot-small (c .before .before .before .before .before .before .before .before .before .before .before .before)) _ _ _ refl (c .more .ensures))
+-- the turn, with free hours
+added : (c : tie.After-more Inv-loop μ-loop Inv-turns μ-turns) → let a = c .before .before .before .before .before .before .before .before .before .before .before .before .before .before .args in let l = c .before .before .before .before .before .before .before .before .before .before .before .before .turns in let g = c .before .before .before .before .before .asked .given .0 in
+    Full (putCell (l .held) (c .before .before .before .before .before .before .before .before .before .before .before .before .turns .i) (g .0) (c .more .result)) ×
+    Added (heldIn (l .held)) (heldIn (putCell (l .held) (c .before .before .before .before .before .before .before .before .before .before .before .before .turns .i) (g .0) (c .more .result))) (slotFor (g .1 .0)) (c .before .before .before .before .before .before .before .before .before .before .before .before .turns .i) (g .0) (c .before .before .fewest .result)
+added c = let l = c .before .before .before .before .before .before .before .before .before .before .before .before .turns in
+    put-more _ (l .inv .live .full) _ _ _ (grower-small (c .before .before .before .before .before .before .before .before .before .before .before)) (pilot-small (c .before .before .before .before .before)) _ _ _ refl (c .more .ensures)
+
+turned-add : (c : tie.After-more Inv-loop μ-loop Inv-turns μ-turns) → let a = c .before .before .before .before .before .before .before .before .before .before .before .before .before .before .args in let l = c .before .before .before .before .before .before .before .before .before .before .before .before .turns in let g = c .before .before .before .before .before .asked .given .0 in
+    Turned (ticket (a .growers) (a .pilots) (a .t3) (a .pilot-hours) (a .t5)) (l .price) (l .held) (l .price) (putCell (l .held) (c .before .before .before .before .before .before .before .before .before .before .before .before .turns .i) (g .0) (c .more .result))
+turned-add c = let l = c .before .before .before .before .before .before .before .before .before .before .before .before .turns in
+    let w = want (c .before .before .before .before .before) in
+    let e = c .before .before .fewest .ensures in
+    turn-add _ _ _ (c .before .before .before .before .before .before .before .before .before .before .before .before .before .before .pre .0) (l .inv .live) _ _ _ (w .0) _ _ (e .2 (w .1 .some) (c .before .before .before .if1 .taken))
+    (omega (arith, e .0, w .1 .room)) (omega (arith, e .0, w .1 .free)) (omega (arith, e .1, l .inv .hours .each _ (w .0 .pilot))) (added c)
+
+-- the search for late hours leaves all as it is
+still : (c : tie.At-loop Inv-loop μ-loop Inv-turns μ-turns) → let a = c .before .before .before .before .before .before .before .before .before .before .before .before .args in let l = c .before .before .before .before .before .before .before .before .before .before .turns in
+    Working (ticket (a .growers) (a .pilots) (a .t3) (a .pilot-hours) (a .t5)) (l .price) (c .loop .held) (l .free) (l .i) (l .k)
+still c = rw (c .loop .inv .0) (c .before .before .before .before .before .before .before .before .before .before .turns .inv)
+
+still-want : (c : tie.At-loop Inv-loop μ-loop Inv-turns μ-turns) → let a = c .before .before .before .before .before .before .before .before .before .before .before .before .args in let l = c .before .before .before .before .before .before .before .before .before .before .turns in let g = c .before .before .before .asked .given .0 in
+    Asks (ticket (a .growers) (a .pilots) (a .t3) (a .pilot-hours) (a .t5)) (line (l .price)) (heldIn (c .loop .held)) (l .i) (Hours (g .0) (g .1 .0) (g .1 .1 .0))
+still-want c = rw (c .loop .inv .0) (want (c .before .before .before))
+
+-- late hours of the pilot
+late : (c : tie.After-late Inv-loop μ-loop Inv-turns μ-turns) → let a = c .before .before .before .before .before .before .before .before .before .before .before .before .before .before .before .before .before .before .before .args in let l = c .before .before .before .before .before .before .before .before .before .before .before .before .before .before .before .before .before .turns in let g = c .before .before .before .before .before .before .before .before .before .before .asked .given .0 in let h = c .late .given .0 in
+    HasLate (ticket (a .growers) (a .pilots) (a .t3) (a .pilot-hours) (a .t5)) (line (l .price)) (heldIn (c .before .before .before .before .before .before .before .loop .held)) (h .0) (c .before .before .before .before .before .before .before .loop .giver) (g .0) (h .1 .0)
+late c = let a = c .before .before .before .before .before .before .before .before .before .before .before .before .before .before .before .before .before .before .before .args in let l = c .before .before .before .before .before .before .before .before .before .before .before .before .before .before .before .before .before .turns in let h = c .late .given .0 in
+    late-hours-found (a .growers) (a .pilots) (a .t3) (a .pilot-hours) (a .t5) (l .price) (c .before .before .before .before .before .before .before .loop .held) (c .before .before .before .before .before .before .before .before .before .before .asked .given .0 .0) (c .before .before .before .before .before .before .before .loop .giver) (h .0) (h .1 .0)
+    (c .before .before .before .before .before .before .loop-test .taken) (rw (c .late .given .1) at (c .before .before .late-here .ensures))
+
+giver-small : (c : tie.In-loop Inv-loop μ-loop Inv-turns μ-turns) → c .before .loop .giver < 16
+giver-small c = omega (arith, c .loop-test .taken, c .before .before .before .before .before .before .before .before .before .before .before .before .before .pre .0 .growers)
 
 -- the turn, with late hours given up
-swapped : (c : tie.After-swap-hours Inv-loop μ-loop) → let s = c .before .before .before .before .before .before .before .before .before .before .before .before .before .before .before .before .before .before .before .before in let a = s .args in let l = c .before .before .before .before .before .before .before .before .before .before .before .before .before .before .before .before .before .before .loop in
-    Turned (ticket (a .growers) (a .pilots) (a .t3) (a .t4) (a .t5)) (l .price) (l .held) (l .price) (c .swap-hours .result)
-swapped c =
-    let s = c .before .before .before .before .before .before .before .before .before .before .before .before .before .before .before .before .before .before .before .before in
-    let a = s .args in
-    let l = c .before .before .before .before .before .before .before .before .before .before .before .before .before .before .before .before .before .before .loop in
-    let h = has-room (c .before .before .before .before .before .before .before .before .before .before) in
-    let v = rw (c .before .before .late .given .1) at (c .before .before .before .before .late-hour .ensures) in
-    turn-move _ _ _ (s .pre .0) (l .inv .0) _ _ _ (want (c .before .before .before .before .before .before .before .before .before .before .before .before .before .before)) _ _ _ _ (h .room) (h .free)
-    (late-any (a .growers) (a .pilots) (a .t3) (a .t4) (a .t5) (l .price) (heldIn (l .held)) (c .before .before .before .before .before .before .before .before .before .before .before .before .before .before .next .given .0 .0 .pilot) (Hour _ _) v)
-    (c .swap-hours .ensures)
+put : (c : tie.After-more2 Inv-loop μ-loop Inv-turns μ-turns) → let l = c .before .before .before .before .before .before .before .before .before .before .before .before .before .before .before .before .before .before .before .before .before .turns in let g = c .before .before .before .before .before .before .before .before .before .before .before .before .before .before .asked .given .0 in
+    let after = putCell (c .before .before .before .before .before .before .before .before .before .before .before .loop .held) (l .i) (g .0) (c .more2 .result) in
+    Full after × Added (heldIn (c .before .before .before .before .before .before .before .before .before .before .before .loop .held)) (heldIn after) (slotFor (g .1 .0)) (l .i) (g .0) (c .before .before .fewest2 .result)
+put c =
+    put-more _ (still (c .before .before .before .before .before .before .before .before .before .before .before) .live .full) _ _ _ (grower-small (c .before .before .before .before .before .before .before .before .before .before .before .before .before .before .before .before .before .before .before .before)) (pilot-small (c .before .before .before .before .before .before .before .before .before .before .before .before .before .before)) _ _ _ refl (c .more2 .ensures)
+
+swapped : (c : tie.After-fewer Inv-loop μ-loop Inv-turns μ-turns) → let a = c .before .before .before .before .before .before .before .before .before .before .before .before .before .before .before .before .before .before .before .before .before .before .before .before .before .args in let l = c .before .before .before .before .before .before .before .before .before .before .before .before .before .before .before .before .before .before .before .before .before .before .before .turns in let g = c .before .before .before .before .before .before .before .before .before .before .before .before .before .before .before .before .asked .given .0 in
+    let t = ticket (a .growers) (a .pilots) (a .t3) (a .pilot-hours) (a .t5) in
+    let after = putCell (putCell (c .before .before .before .before .before .before .before .before .before .before .before .before .before .loop .held) (l .i) (g .0) (c .before .before .more2 .result)) (c .before .before .before .before .before .before .before .before .before .before .before .before .before .loop .giver) (g .0) (c .fewer .result) in
+    Turned t (l .price) (c .before .before .before .before .before .before .before .before .before .before .before .before .before .loop .held) (l .price) after × FreeHours t after (l .free)
+swapped c = let s = still (c .before .before .before .before .before .before .before .before .before .before .before .before .before) in
+    let w = still-want (c .before .before .before .before .before .before .before .before .before .before .before .before .before) in
+    let d = c .before .before .before .before .before .before .before .before .before .before .before .before .before .before .before .before .asked .given .0 .1 .0 in
+    let given = c .before .before .before .before .before .before .late .given .0 .0 in
+    let between = putCell (c .before .before .before .before .before .before .before .before .before .before .before .before .before .loop .held) (c .before .before .before .before .before .before .before .before .before .before .before .before .before .before .before .before .before .before .before .before .before .before .before .turns .i) (c .before .before .before .before .before .before .before .before .before .before .before .before .before .before .before .before .asked .given .0 .0) (c .before .before .more2 .result) in
+    let v = late (c .before .before .before .before .before .before) in
+    let e = c .before .before .before .before .fewest2 .ensures in
+    let p = put (c .before .before) in
+    let q = put-fewer _ (p .0) _ _ _ (giver-small (c .before .before .before .before .before .before .before .before .before .before .before .before)) (pilot-small (c .before .before .before .before .before .before .before .before .before .before .before .before .before .before .before .before)) _ _ _ refl (c .fewer .ensures) in (
+      turn-move _ _ _ (c .before .before .before .before .before .before .before .before .before .before .before .before .before .before .before .before .before .before .before .before .before .before .before .before .before .pre .0) (s .live) d _ _ (w .0) between _ given _ _ _ (e .2 (w .1 .some) (v .some)) (omega (arith, e .0, w .1 .room)) (omega (arith, e .0, w .1 .free)) v (p .1) q,
+      free-moved _ _ _ _ (s .hours) between (slotFor d) (lateSlot given) _ _ _ _ (w .0 .grower) (v .grower) (p .1) (q .1),
+    )
 
 -- the turn, with a price that rose
-risen : (c : tie.After-rise Inv-loop μ-loop) → let s = c .before .before .before .before .before .before .before .before .before .before .before .before .before .before .before .before .before .before .before .before in let a = s .args in let l = c .before .before .before .before .before .before .before .before .before .before .before .before .before .before .before .before .before .before .loop in
-    Turned (ticket (a .growers) (a .pilots) (a .t3) (a .t4) (a .t5)) (l .price) (l .held) (c .rise .last .1 .1 .1 .1 .0) (c .rise .result)
-risen c =
-    let s = c .before .before .before .before .before .before .before .before .before .before .before .before .before .before .before .before .before .before .before .before in
-    let a = s .args in
-    let l = c .before .before .before .before .before .before .before .before .before .before .before .before .before .before .before .before .before .before .loop in
-    let p = c .before .before .before .before .before .before .before .before .before .before .before .before .before .before .next .given .0 .0 in
-    let w = want (c .before .before .before .before .before .before .before .before .before .before .before .before .before .before) in
-    let v = rw (c .before .before .enum-told2 .given .1) at (c .before .before .before .before .late-hour .ensures) in
+risen : (c : tie.After-rise Inv-loop μ-loop Inv-turns μ-turns) → let a = c .before .before .before .before .before .before .before .before .before .before .before .before .before .before .before .args in let l = c .before .before .before .before .before .before .before .before .before .before .before .before .before .turns in
+    let t = ticket (a .growers) (a .pilots) (a .t3) (a .pilot-hours) (a .t5) in
+    Turned t (l .price) (c .before .before .before .loop .held) (c .rise .last .1 .1 .1 .1 .0) (c .rise .result) × FreeHours t (c .rise .result) (l .free)
+risen c = let a = c .before .before .before .before .before .before .before .before .before .before .before .before .before .before .before .args in let l = c .before .before .before .before .before .before .before .before .before .before .before .before .before .turns in
+    let j = c .before .before .before .before .before .before .asked .given .0 .0 in
+    let s = still (c .before .before .before) in
+    let w = still-want (c .before .before .before) .0 in
+    let none = no-late-hour (a .growers) (a .pilots) (a .t3) (a .pilot-hours) (a .t5) (l .price) (c .before .before .before .loop .held) j (c .before .before .before .loop .giver) (omega (arith, c .before .before .loop-test .left))
+    (rw (c .before .before .before .loop .inv .0) (c .before .before .before .loop .inv .2)) in
     ⊎-elim
-    (λ jumps. turn-jump (a .growers) (a .pilots) (a .t3) (a .t4) (a .t5) (l .price) _ (l .held) _ (p .pilot) (w .pilot) (l .inv .0) jumps)
-    (λ one. turn-raise _ _ _ (s .pre .0) (l .inv .0) (p .deal) _ _ w _ _
-    (omega (arith, c .before .before .before .before .before .before .before .less .ensures, c .before .before .before .before .before .before .before .before .used-by-pilot .ensures, c .before .before .before .before .before .before .before .before .before .wide .ensures .0, c .before .before .before .before .before .before .if1 .left))
-    (late-any (a .growers) (a .pilots) (a .t3) (a .t4) (a .t5) (l .price) (heldIn (l .held)) (p .pilot) NoHour v)
-    (one .price) (one .aged) (one .full))
+    (λ jumps. (
+      turn-jump (a .growers) (a .pilots) (a .t3) (a .pilot-hours) (a .t5) (l .price) _ (c .before .before .before .loop .held) _ (l .free) j (w .pilot) (s .live) (s .hours) jumps,
+      rw (jumps .same) (s .hours),
+    ))
+    (λ one. (
+      turn-raise _ _ _ (c .before .before .before .before .before .before .before .before .before .before .before .before .before .before .before .pre .0) (s .live) _ _ _ w _ _ (omega (arith, c .before .before .before .before .if1 .left, s .hours .each j (w .pilot))) none (one .price) (one .aged) (one .full),
+      free-kept _ _ _ _ (s .hours) (raised-used (raised _ _ _ (c .before .before .before .before .before .before .before .before .before .before .before .before .before .before .before .pre .0) (s .live) _ _ _ w _ _ (one .price) (one .aged))),
+    ))
     (c .rise .ensures)
 
-loop-holds : tie.Need-loop-holds Inv-loop μ-loop
-loop-holds c = let s = c .before in
-    let z = c .no-hours .ensures in
-    (live-start _ _ _ (s .pre .0) (s .pre .1 .1) (z .1) (s .pre .1 .0) (z .0), λ h. h)
+-- less is left than when the search began
+left-after : (c : tie.At-loop Inv-loop μ-loop Inv-turns μ-turns) (prices : List ℕ) (held : List (List Agreed)) → let a = c .before .before .before .before .before .before .before .before .before .before .before .before .args in let l = c .before .before .before .before .before .before .before .before .before .before .turns in
+    let t = ticket (a .growers) (a .pilots) (a .t3) (a .pilot-hours) (a .t5) in
+    Turned t (l .price) (c .loop .held) prices held → left t prices held 0 < left t (l .price) (l .held) (l .k)
+left-after c prices held turned = let a = c .before .before .before .before .before .before .before .before .before .before .before .before .args in let l = c .before .before .before .before .before .before .before .before .before .before .turns in
+    left-less (ticket (a .growers) (a .pilots) (a .t3) (a .pilot-hours) (a .t5)) (l .price) (l .held) (l .free) prices held (l .k) (c .before .before .before .before .before .before .before .before .before .before .before .before .pre .0 .growers)
+    (rw (sym (c .loop .inv .0)) turned)
 
-next-deal-requires : tie.Need-next-deal-requires Inv-loop μ-loop
-next-deal-requires c κs = let fit = c .before .before .before .pre .0 in
-    (fit .growers, fit .pilots, c .before .loop .inv .1)
+turns-holds : tie.Need-turns-holds Inv-loop μ-loop Inv-turns μ-turns
+turns-holds c = let z = c .no-hours .ensures in
+    work-starts _ _ _ _ 0 (λ h. h) (live-start _ _ _ (c .before .pre .0) (c .before .pre .1 .1) (z .1) (c .before .pre .1 .0) (z .0)) (free-start _ _ (c .before .args .pilot-hours) (c .before .good .1 .1 .1 .0 .1 .0 .1) (λ j. refl) (z .1))
 
-returns : tie.Need-returns Inv-loop μ-loop
-returns c = let a = c .before .before .before .before .before .before .args in
-    let l = c .before .before .before .before .loop in
-    record {
-      live = l .inv .0;
-      done = rw (c .enum-told .given .1) at
-          (next-any (a .growers) (a .pilots) (a .t3) (a .t4) (a .t5) (line (l .price)) (heldIn (l .held))
-          (c .before .before .next-deal .result) (c .before .before .next-deal .ensures));
-    }
+request-requires : tie.Need-request-requires Inv-loop μ-loop Inv-turns μ-turns
+request-requires c κs = c .before .before .before .before .before .before .pre .0 .pilots
 
-mul-most-hours : tie.Need-mul-most-hours Inv-loop μ-loop
-mul-most-hours c = omega (arith, grower-small (c .before))
+add-k : tie.Need-add-k Inv-loop μ-loop Inv-turns μ-turns
+add-k c = omega (arith, c .before .before .before .before .before .before .before .turns-test .taken, c .before .before .before .before .before .before .before .before .before .before .pre .0 .growers)
 
-array-copy-out-most-hours : tie.Need-array-copy-out-most-hours Inv-loop μ-loop
-array-copy-out-most-hours c = omega (arith, grower-small (c .before))
+turns-less : tie.Need-turns-less Inv-loop μ-loop Inv-turns μ-turns
+turns-less c = omega (arith, c .before .before .before .before .before .before .before .turns-test .taken)
 
-mul-most-hours-2 : tie.Need-mul-most-hours-2 Inv-loop μ-loop
-mul-most-hours-2 c = omega (arith, grower-small (c .before .before))
+turns-again : tie.Need-turns-again Inv-loop μ-loop Inv-turns μ-turns
+turns-again c = let e = c .following .ensures in
+    next-grower _ _ _ _ _ _ (c .before .before .before .before .before .before .before .before .turns .inv) _ (c .before .before .before .before .before .before .before .turns-test .taken) (e .0) (e .1) (e .2) (rw (c .before .enum-told .given .1) at (asks (c .before .before .before)))
 
-array-copy-out-most-hours-2 : tie.Need-array-copy-out-most-hours-2 Inv-loop μ-loop
-array-copy-out-most-hours-2 c = omega (arith, grower-small (c .before .before))
+following-requires : tie.Need-following-requires Inv-loop μ-loop Inv-turns μ-turns
+following-requires c κs = (grower (c .before .before .before .before .before .before), c .before .before .before .before .before .before .before .before .before .pre .0 .growers)
 
-mul-most-hours-3 : tie.Need-mul-most-hours-3 Inv-loop μ-loop
-mul-most-hours-3 c = omega (arith, grower-small (c .before .before .before))
+more-requires : tie.Need-more-requires Inv-loop μ-loop Inv-turns μ-turns
+more-requires c κs = let w = want (c .before .before .before .before) in
+    room-fits _ (c .before .before .before .before .before .before .before .before .before .before .before .turns .held) (c .before .before .before .before .asked .given .0 .1 .0) (c .before .before .before .before .before .before .before .before .before .before .before .turns .i) (c .before .before .before .before .asked .given .0 .0) (c .before .fewest .result) (c .before .before .before .before .before .before .before .before .before .before .before .before .before .pre .0) (omega (arith, c .before .fewest .ensures .0, w .1 .room))
 
-array-read-most-hours : tie.Need-array-read-most-hours Inv-loop μ-loop
-array-read-most-hours c = omega (arith, grower-small (c .before .before .before))
+sub-free : tie.Need-sub-free Inv-loop μ-loop Inv-turns μ-turns
+sub-free c = omega (arith, c .before .before .fewest .ensures .1)
 
-most-hours-requires : tie.Need-most-hours-requires Inv-loop μ-loop
-most-hours-requires c κs = let a = c .before .before .before .before .before .before .before .before .before .args in
-    let l = c .before .before .before .before .before .before .before .loop in
-    let p = c .before .before .before .next .given .0 .0 in
-    let w = want (c .before .before .before) in (
-      (
-        c .before .before .before .before .before .before .before .before .before .pre .0 .pilots,
-        pilot-small (c .before .before .before),
-        room-alone (a .growers) (a .pilots) (p .grower) (p .pilot) (a .t3) (a .t4) (a .t5) (l .held) (p .deal) (w .room),
-      ),
-      w .free,
-    )
+turns-less-2 : tie.Need-turns-less-2 Inv-loop μ-loop Inv-turns μ-turns
+turns-less-2 c = left-less _ _ _ (c .before .before .before .before .before .before .before .before .before .before .before .before .turns .free) _ _ _ (c .before .before .before .before .before .before .before .before .before .before .before .before .before .before .pre .0 .growers) (turned-add c)
 
-mul-wide : tie.Need-mul-wide Inv-loop μ-loop
-mul-wide c = omega (arith, pilot-small (c .before .before .before .before))
+turns-again-2 : tie.Need-turns-again-2 Inv-loop μ-loop Inv-turns μ-turns
+turns-again-2 c = let l = c .before .before .before .before .before .before .before .before .before .before .before .before .turns in
+    let w = want (c .before .before .before .before .before) in
+    work-starts _ _ _ _ _ (λ _. w .0 .grower) (turned-add c .live)
+    (free-added _ _ _ _ (l .inv .hours) _ _ _ _ (w .0 .grower) (pilot-small (c .before .before .before .before .before)) (c .before .before .fewest .ensures .1) (added c .1))
 
-array-read-wide : tie.Need-array-read-wide Inv-loop μ-loop
-array-read-wide c = omega (arith, pilot-small (c .before .before .before .before))
+loop-holds : tie.Need-loop-holds Inv-loop μ-loop Inv-turns μ-turns
+loop-holds c = (refl, omega arith, none-late-start _ _ _ _)
 
-used-by-pilot-requires : tie.Need-used-by-pilot-requires Inv-loop μ-loop
-used-by-pilot-requires c κs = (pilot-small (c .before .before .before .before .before), c .before .before .before .before .before .before .before .before .before .before .before .pre .0 .growers)
+loop-again : tie.Need-loop-again Inv-loop μ-loop Inv-turns μ-turns
+loop-again c = let v = c .before .before .before .before .before .before .before .loop .inv in
+    (v .0, omega arith, none-late-more _ _ _ _ _ (rw (v .0) at (rw (c .enum-told2 .given .1) at (c .before .before .late-here .ensures))) (v .2))
 
-mul-more : tie.Need-mul-more Inv-loop μ-loop
-mul-more c = omega (arith, grower-small (c .before .before .before .before .before .before .before .before))
+more-requires-2 : tie.Need-more-requires-2 Inv-loop μ-loop Inv-turns μ-turns
+more-requires-2 c κs = let w = still-want (c .before .before .before .before .before .before .before .before .before .before) in
+    room-fits _ (c .before .before .before .before .before .before .before .before .before .before .loop .held) (c .before .before .before .before .before .before .before .before .before .before .before .before .before .asked .given .0 .1 .0) (c .before .before .before .before .before .before .before .before .before .before .before .before .before .before .before .before .before .before .before .before .turns .i) (c .before .before .before .before .before .before .before .before .before .before .before .before .before .asked .given .0 .0) (c .before .fewest2 .result) (c .before .before .before .before .before .before .before .before .before .before .before .before .before .before .before .before .before .before .before .before .before .before .pre .0) (omega (arith, c .before .fewest2 .ensures .0, w .1 .room))
 
-mul-more-2 : tie.Need-mul-more-2 Inv-loop μ-loop
-mul-more-2 c = omega (arith, pilot-small (c .before .before .before .before .before .before .before .before))
+fewer-requires : tie.Need-fewer-requires Inv-loop μ-loop Inv-turns μ-turns
+fewer-requires c κs =
+    omega (arith, never-less (put (c .before) .1) (lateSlot (c .before .before .before .before .before .late .given .0 .0)) (c .before .before .before .before .before .before .before .before .before .before .before .before .loop .giver) (c .before .before .before .before .before .before .before .before .before .before .before .before .before .before .before .asked .given .0 .0), c .before .before .before .fewest2 .ensures .1, late (c .before .before .before .before .before) .count)
 
-index-1-more : tie.Need-index-1-more Inv-loop μ-loop
-index-1-more c = omega (arith, grower-small (c .before .before .before .before .before .before .before .before))
+turns-less-3 : tie.Need-turns-less-3 Inv-loop μ-loop Inv-turns μ-turns
+turns-less-3 c = left-after (c .before .before .before .before .before .before .before .before .before .before .before .before .before) _ _ (swapped c .0)
 
-index-2-more : tie.Need-index-2-more Inv-loop μ-loop
-index-2-more c = omega (arith, pilot-small (c .before .before .before .before .before .before .before .before))
+turns-again-3 : tie.Need-turns-again-3 Inv-loop μ-loop Inv-turns μ-turns
+turns-again-3 c = let s = swapped c in
+    work-starts _ _ _ _ _ (λ _. want (c .before .before .before .before .before .before .before .before .before .before .before .before .before .before .before .before) .0 .grower) (s .0 .live) (s .1)
 
-narrow-requires : tie.Need-narrow-requires Inv-loop μ-loop
-narrow-requires c κs = omega (arith, c .least .ensures .0, room-small (c .before .before .before .before .before .before))
-
-more-requires : tie.Need-more-requires Inv-loop μ-loop
-more-requires c κs = omega (arith, c .narrow .ensures, c .before .least .ensures .0, room-small (c .before .before .before .before .before .before .before))
-
-mul-t56 : tie.Need-mul-t56 Inv-loop μ-loop
-mul-t56 c = omega (arith, grower-small (c .before .before .before .before .before .before .before .before .before .before .before .before))
-
-mul-t59 : tie.Need-mul-t59 Inv-loop μ-loop
-mul-t59 c = omega (arith, pilot-small (c .before .before .before .before .before .before .before .before .before .before .before .before))
-
-index-1-held : tie.Need-index-1-held Inv-loop μ-loop
-index-1-held c = omega (arith, grower-small (c .before .before .before .before .before .before .before .before .before .before .before .before))
-
-index-2-held : tie.Need-index-2-held Inv-loop μ-loop
-index-2-held c = omega (arith, pilot-small (c .before .before .before .before .before .before .before .before .before .before .before .before))
-
-loop-less : tie.Need-loop-less Inv-loop μ-loop
-loop-less c = added c .less
-
-loop-again : tie.Need-loop-again Inv-loop μ-loop
-loop-again c = (added c .live, λ _. want (c .before .before .before .before .before .before .before .before .before .before .before .before) .grower)
-
-mul-late-hour : tie.Need-mul-late-hour Inv-loop μ-loop
-mul-late-hour c = omega (arith, pilot-small (c .before .before .before .before .before .before .before .before))
-
-element-copy-out-late-hour : tie.Need-element-copy-out-late-hour Inv-loop μ-loop
-element-copy-out-late-hour c = omega (arith, pilot-small (c .before .before .before .before .before .before .before .before))
-
-late-hour-requires : tie.Need-late-hour-requires Inv-loop μ-loop
-late-hour-requires c κs = (c .before .before .before .before .before .before .before .before .before .before .before .before .before .before .before .pre .0 .growers, pilot-small (c .before .before .before .before .before .before .before .before .before))
-
-swap-hours-requires : tie.Need-swap-hours-requires Inv-loop μ-loop
-swap-hours-requires c κs = let h = has-room (c .before .before .before .before .before .before .before .before .before) in
-    let v = rw (c .before .late .given .1) at (c .before .before .before .late-hour .ensures) in (
-      (
-        c .before .before .before .before .before .before .before .before .before .before .before .before .before .before .before .before .before .loop .inv .0 .full,
-        grower-small (c .before .before .before .before .before .before .before .before .before .before .before .before .before),
-        pilot-small (c .before .before .before .before .before .before .before .before .before .before .before .before .before),
-        omega (arith, v .grower, c .before .before .before .before .before .before .before .before .before .before .before .before .before .before .before .before .before .before .before .pre .0 .growers),
-        h .some,
-        room-small (c .before .before .before .before .before .before .before .before .before),
-      ),
-      v .some,
-    )
-
-loop-less-2 : tie.Need-loop-less-2 Inv-loop μ-loop
-loop-less-2 c = swapped c .less
-
-loop-again-2 : tie.Need-loop-again-2 Inv-loop μ-loop
-loop-again-2 c = (swapped c .live, λ _. want (c .before .before .before .before .before .before .before .before .before .before .before .before .before .before) .grower)
-
-rise-requires : tie.Need-rise-requires Inv-loop μ-loop
-rise-requires c κs = let fit = c .before .before .before .before .before .before .before .before .before .before .before .before .before .before .before .before .before .before .before .pre .0 in
-    let live = c .before .before .before .before .before .before .before .before .before .before .before .before .before .before .before .before .before .loop .inv .0 in
-    let w = want (c .before .before .before .before .before .before .before .before .before .before .before .before .before) in (
+rise-requires : tie.Need-rise-requires Inv-loop μ-loop Inv-turns μ-turns
+rise-requires c κs = let fit = c .before .before .before .before .before .before .before .before .before .before .before .before .before .before .pre .0 in
+    let live = still (c .before .before) .live in
+    let w = still-want (c .before .before) .0 in (
       (live .full, fit .growers, fit .pilots, w .pilot),
       (live .low, λ i hi. free-hours-fit _ _ _ fit live i _ hi (w .pilot)),
     )
 
-loop-less-3 : tie.Need-loop-less-3 Inv-loop μ-loop
-loop-less-3 c = risen c .less
+turns-less-4 : tie.Need-turns-less-4 Inv-loop μ-loop Inv-turns μ-turns
+turns-less-4 c = left-after (c .before .before .before) _ _ (risen c .0)
 
-loop-again-3 : tie.Need-loop-again-3 Inv-loop μ-loop
-loop-again-3 c = (risen c .live, λ _. want (c .before .before .before .before .before .before .before .before .before .before .before .before .before .before) .grower)
+turns-again-4 : tie.Need-turns-again-4 Inv-loop μ-loop Inv-turns μ-turns
+turns-again-4 c = let s = risen c in
+    work-starts _ _ _ _ _ (λ _. want (c .before .before .before .before .before .before) .0 .grower) (s .0 .live) (s .1)
+
+returns : tie.Need-returns Inv-loop μ-loop Inv-turns μ-turns
+returns c = work-ends _ _ _ _ _ _ (c .before .turns .inv) (omega (arith, c .turns-test .left))
 
 pub run-spec : {M : Type 1} → statement M
 run-spec =
@@ -255,45 +228,79 @@ run-spec =
     (tie.spec
     Inv-loop
     μ-loop
+    Inv-turns
+    μ-turns
     (λ c κs. search needs)
-    loop-holds
-    next-deal-requires
+    turns-holds
+    (λ c. omega (arith, grower-small c))
+    (λ c. omega (arith, grower-small c))
+    (λ c. omega (arith, grower-small (c .before)))
+    (λ c. omega (arith, grower-small (c .before)))
+    (λ c. omega (arith, grower-small (c .before .before)))
+    (λ c. omega (arith, grower-small (c .before .before)))
+    request-requires
     (λ c. search needs)
     (λ c. search needs)
-    returns
-    mul-most-hours
-    array-copy-out-most-hours
-    mul-most-hours-2
-    array-copy-out-most-hours-2
-    mul-most-hours-3
-    array-read-most-hours
-    most-hours-requires
-    mul-wide
-    array-read-wide
+    following-requires
+    add-k
+    turns-less
+    turns-again
+    (λ c. omega (arith, pilot-small (c .before)))
+    (λ c. omega (arith, pilot-small (c .before)))
     (λ c κs. search needs)
-    used-by-pilot-requires
-    (λ c κs. search needs)
-    mul-more
-    mul-more-2
-    index-1-more
-    index-2-more
-    (λ c κs. search needs)
-    narrow-requires
+    (λ c. omega (arith, grower-small (c .before .before .before .before .before .before .before .before .before)))
+    (λ c. omega (arith, pilot-small (c .before .before .before)))
+    (λ c. omega (arith, grower-small (c .before .before .before .before .before .before .before .before .before)))
+    (λ c. omega (arith, pilot-small (c .before .before .before)))
     more-requires
-    mul-t56
-    mul-t59
-    index-1-held
-    index-2-held
-    loop-less
+    (λ c. omega (arith, grower-small (c .before .before .before .before .before .before .before .before .before .before .before)))
+    (λ c. omega (arith, pilot-small (c .before .before .before .before .before)))
+    (λ c. omega (arith, grower-small (c .before .before .before .before .before .before .before .before .before .before .before)))
+    (λ c. omega (arith, pilot-small (c .before .before .before .before .before)))
+    sub-free
+    (λ c. omega (arith, pilot-small (c .before .before .before .before .before)))
+    (λ c. omega (arith, pilot-small (c .before .before .before .before .before)))
+    turns-less-2
+    turns-again-2
+    loop-holds
+    (λ c. omega (arith, pilot-small (c .before .before .before .before)))
+    (λ c. omega (arith, pilot-small (c .before .before .before .before)))
+    (λ c. omega (arith, giver-small (c .before)))
+    (λ c. omega (arith, pilot-small (c .before .before .before .before .before)))
+    (λ c. omega (arith, giver-small (c .before)))
+    (λ c. omega (arith, pilot-small (c .before .before .before .before .before)))
+    (λ c. omega (arith, giver-small (c .before .before)))
+    (λ c. omega (arith, pilot-small (c .before .before .before .before .before .before)))
+    (λ c. omega (arith, giver-small (c .before .before)))
+    (λ c. omega (arith, pilot-small (c .before .before .before .before .before .before)))
+    (λ c κs. search needs)
+    (λ c. search needs)
+    (λ c κs. search needs)
+    (λ c. omega (arith, grower-small (c .before .before .before .before .before .before .before .before .before .before .before .before .before .before .before .before .before .before)))
+    (λ c. omega (arith, pilot-small (c .before .before .before .before .before .before .before .before .before .before .before .before)))
+    (λ c. omega (arith, grower-small (c .before .before .before .before .before .before .before .before .before .before .before .before .before .before .before .before .before .before)))
+    (λ c. omega (arith, pilot-small (c .before .before .before .before .before .before .before .before .before .before .before .before)))
+    more-requires-2
+    (λ c. omega (arith, grower-small (c .before .before .before .before .before .before .before .before .before .before .before .before .before .before .before .before .before .before .before .before)))
+    (λ c. omega (arith, pilot-small (c .before .before .before .before .before .before .before .before .before .before .before .before .before .before)))
+    (λ c. omega (arith, grower-small (c .before .before .before .before .before .before .before .before .before .before .before .before .before .before .before .before .before .before .before .before)))
+    (λ c. omega (arith, pilot-small (c .before .before .before .before .before .before .before .before .before .before .before .before .before .before)))
+    (λ c. omega (arith, giver-small (c .before .before .before .before .before .before .before .before .before .before)))
+    (λ c. omega (arith, pilot-small (c .before .before .before .before .before .before .before .before .before .before .before .before .before .before)))
+    (λ c. omega (arith, giver-small (c .before .before .before .before .before .before .before .before .before .before)))
+    (λ c. omega (arith, pilot-small (c .before .before .before .before .before .before .before .before .before .before .before .before .before .before)))
+    fewer-requires
+    (λ c. omega (arith, giver-small (c .before .before .before .before .before .before .before .before .before .before .before .before)))
+    (λ c. omega (arith, pilot-small (c .before .before .before .before .before .before .before .before .before .before .before .before .before .before .before .before)))
+    (λ c. omega (arith, giver-small (c .before .before .before .before .before .before .before .before .before .before .before .before)))
+    (λ c. omega (arith, pilot-small (c .before .before .before .before .before .before .before .before .before .before .before .before .before .before .before .before)))
+    turns-less-3
+    turns-again-3
+    (λ c. search needs)
+    (λ c. search needs)
+    (λ c. search needs)
     loop-again
-    mul-late-hour
-    element-copy-out-late-hour
-    late-hour-requires
-    (λ c. search needs)
-    swap-hours-requires
-    loop-less-2
-    loop-again-2
-    (λ c. search needs)
     rise-requires
-    loop-less-3
-    loop-again-3)
+    turns-less-4
+    turns-again-4
+    returns)

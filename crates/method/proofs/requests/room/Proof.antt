@@ -1,9 +1,9 @@
--- `method::hours::room` meets its contract.
+-- `method::requests::room` meets its contract.
 -- Assumes nothing.
 use native.Mathlib.Omega.{arith}
 use borrow.Author.Needs.{needs}
-use Rattle.method.proofs.hours.room.Statement.{statement}
-use Rattle.method.proofs.hours.room.Tie as tie
+use Rattle.method.proofs.requests.room.Statement.{statement}
+use Rattle.method.proofs.requests.room.Tie as tie
 
 sub-result : tie.Need-sub-result
 sub-result c = let h = rw (c .before .before .enum-told .given .1) at (c .before .before .before .before .pre) in omega arith
