@@ -4,7 +4,7 @@ ghost use Prim.Native.Nat.{suc, _*_, _-_, _<_, _≤_};
 ghost use mathlib.Core.Bool.{true, false};
 ghost use Rattle.method.specs.View.{line, alone, heldBy};
 ghost use Rattle.method.specs.Choice.{tariffChance, freeChance};
-ghost use Rattle.method.specs.Jumps.{among, WorthAtLeast, OffersAtMost, GrowerBears, GrowersBear};
+ghost use Rattle.method.specs.Jumps.{among, GrowersBear};
 use crate::Agreed;
 use crate::Terms;
 use crate::numbers::least;
@@ -44,7 +44,6 @@ pub(crate) fn least_worth(
     marks: [bool; 16],
 ) -> u32
     requires { ⌜ pilots ≤ 16 ⌝ }
-    ensures { λ r. ⌜ WorthAtLeast (alone pilots 0 terms) (among marks) (line (now (price .entry))) (heldBy agreed) 0 pilots r ⌝ }
 {
     let mut low = MANY;
     for j in 0..pilots {
@@ -65,56 +64,30 @@ fn outside(marked: bool, terms: Terms, agreed: Agreed, price: u32) -> u32
     most(tariff, free_chance(terms, agreed, price))
 }
 
-// The greatest of a grower's chances, but for the free deals with marked pilots.
-fn top_outside(
-    terms: [Terms; 16],
-    agreed: [Agreed; 16],
-    price: &[u32; 16],
-    pilots: usize,
-    marks: [bool; 16],
-) -> u32
-    requires { ⌜ pilots ≤ 16 ⌝ }
-    ensures { λ r. ⌜ OffersAtMost (alone pilots 0 terms) (among marks) (line (now (price .entry))) (heldBy agreed) 0 pilots r ⌝ }
-{
-    let mut top: u32 = 1;
-    for j in 0..pilots {
-        top = most(top, outside(marks[j], terms[j], agreed[j], price[j]));
-    }
-    top
-}
-
-// By how much the prices of the marked pilots may rise before a free hour of the grower is worth less to him than another deal.
-fn grower_slack(
-    terms: [Terms; 16],
-    agreed: [Agreed; 16],
-    price: &[u32; 16],
-    pilots: usize,
-    marks: [bool; 16],
-) -> u32
-    requires { ⌜ pilots ≤ 16 ⌝ }
-    ensures { λ r. ⌜ GrowerBears (alone pilots 0 terms) (among marks) (line (now (price .entry))) (heldBy agreed) 0 r ⌝ }
-{
-    less(
-        least_worth(terms, agreed, price, pilots, marks),
-        top_outside(terms, agreed, price, pilots, marks),
-    )
-}
-
-// At most `most`, and what a grower and his tariff hours bear.
+// At most `bound`, and by how much the prices of the marked pilots may rise before a tariff hour with the grower pays too little, or a
+// free hour is worth less to him than another deal.
 pub(crate) fn row_slack(
     terms: [Terms; 16],
     agreed: [Agreed; 16],
     price: &[u32; 16],
     pilots: usize,
     marks: [bool; 16],
-    most: u32,
+    bound: u32,
 ) -> u32
     requires { ⌜ pilots ≤ 16 ⌝ }
-    ensures { λ r. ⌜ (r ≤ most) × GrowersBear (alone pilots 0 terms) (among marks) (line (now (price .entry))) (heldBy agreed) 1 r ⌝ }
+    ensures { λ r. ⌜ (r ≤ bound) × GrowersBear (alone pilots 0 terms) (among marks) (line (now (price .entry))) (heldBy agreed) 1 r ⌝ }
 {
-    if most == 0 {
+    if bound == 0 {
         return 0;
     }
-    let paid = tariff_slack(terms, agreed, price, pilots, marks, most);
-    least(paid, grower_slack(terms, agreed, price, pilots, marks))
+    let mut paid = bound;
+    let mut low = MANY;
+    let mut top: u32 = 1;
+    for j in 0..pilots {
+        let marked = marks[j];
+        paid = tariff_slack(marked, terms[j], agreed[j], price[j], paid);
+        low = least(low, worth_here(marked, terms[j], agreed[j], price[j]));
+        top = most(top, outside(marked, terms[j], agreed[j], price[j]));
+    }
+    least(paid, less(low, top))
 }

@@ -1,7 +1,9 @@
 // How far pilots bear a rise of their prices: they have no free hour, and no tariff hour of theirs may pay too little.
+ghost use mathlib.Core.Path.{_≡_};
+ghost use mathlib.Core.Bool.{true};
 ghost use Prim.Native.Nat.{_+_, _*_, _-_, _<_, _≤_};
-ghost use Rattle.method.specs.View.{line, alone, heldBy};
-ghost use Rattle.method.specs.Jumps.{among, TariffsBear, PilotsBear};
+ghost use Rattle.method.specs.View.{line};
+ghost use Rattle.method.specs.Jumps.{among, PilotsBear};
 use crate::Agreed;
 use crate::Terms;
 use crate::numbers::TOP;
@@ -9,32 +11,13 @@ use crate::numbers::least;
 use crate::numbers::less;
 use crate::numbers::wide;
 
-// At most `by`, and what a pilot's tariff hours with one grower bear.
-fn tariff_slack_here(terms: Terms, agreed: Agreed, price: u32, by: u32) -> u32
-    ensures { λ r. ⌜ (r ≤ by) × (0 < agreed .«by_tariff» → r ≤ 18 * terms .«tariff_pay» + 1 - price) ⌝ }
+// At most `by`, and what the tariff hours of a pilot with one grower bear, if he is marked.
+pub(crate) fn tariff_slack(marked: bool, terms: Terms, agreed: Agreed, price: u32, by: u32) -> u32
+    ensures { λ r. ⌜ (r ≤ by) × (marked ≡ true → 0 < agreed .«by_tariff» → r ≤ 18 * terms .«tariff_pay» + 1 - price) ⌝ }
 {
-    if 0 < agreed.by_tariff {
-        return least(by, less(18 * wide(terms.tariff_pay) + 1, price));
-    }
-    by
-}
-
-// At most `most`, and how far the prices of the marked pilots may rise before a tariff hour of theirs with one grower pays too little.
-pub(crate) fn tariff_slack(
-    terms: [Terms; 16],
-    agreed: [Agreed; 16],
-    price: &[u32; 16],
-    pilots: usize,
-    marks: [bool; 16],
-    most: u32,
-) -> u32
-    requires { ⌜ pilots ≤ 16 ⌝ }
-    ensures { λ r. ⌜ (r ≤ most) × TariffsBear (alone pilots 0 terms) (among marks) (line (now (price .entry))) (heldBy agreed) 0 pilots r ⌝ }
-{
-    let mut by = most;
-    for j in 0..pilots {
-        if marks[j] {
-            by = tariff_slack_here(terms[j], agreed[j], price[j], by);
+    if marked {
+        if 0 < agreed.by_tariff {
+            return least(by, less(18 * wide(terms.tariff_pay) + 1, price));
         }
     }
     by
