@@ -1,12 +1,19 @@
 // Rows and squares of numbers: the functions that several crates need. Each answers on every input.
 ghost use mathlib.Core.Path.{_≡_};
-ghost use Prim.Native.Nat.{ℕ, _<_};
+ghost use Prim.Native.Nat.{ℕ, _<_, min};
 ghost use lib.ListN.{getD, take};
 ghost use Rattle.grid.specs.Grid.{at, Square, Row};
 ghost use Rattle.grid.specs.Lines.{rowSum, colSum};
 
 // How many growers, and how many pilots, a square has room for.
 pub const SIDE: usize = 16;
+
+// As many of so many growers, or pilots, as a square has room for.
+pub fn within(count: usize) -> usize
+    ensures { λ r. ⌜ (r ≡ min 16 count) × (r < 17) ⌝ }
+{
+    if count < SIDE { count } else { SIDE }
+}
 
 // A number at the width that sums are taken in.
 pub fn wide(x: u16) -> u64
@@ -50,13 +57,6 @@ pub fn cell(sq: [[u16; 16]; 16], i: usize, j: usize) -> u64
         }
     }
     0
-}
-
-// How much of a row or a column lies within the square.
-fn within(count: usize) -> usize
-    ensures { λ r. ⌜ (r < 17) × (count < 17 → r ≡ count) × (16 < count → r ≡ 16) ⌝ }
-{
-    if count < SIDE { count } else { SIDE }
 }
 
 // The first m cells of row i.

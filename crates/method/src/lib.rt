@@ -73,8 +73,8 @@ pub fn settle_squares(
 ) -> [[Flown; 16]; 16]
     ensures { λ r. ⌜ Sound (ticket (min 16 growers) (min 16 pilots) «grower_hours» «pilot_hours» terms) (settlementIn r) ⌝ }
 {
-    let n = numbers::within(growers);
-    let m = numbers::within(pilots);
+    let n = grid::within(growers);
+    let m = grid::within(pilots);
     let mut price = finish::zero_prices();
     let held = turns::run(n, m, grower_hours, pilot_hours, terms, &mut price);
     let shift = finish::rounding(m, price);

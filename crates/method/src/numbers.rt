@@ -1,16 +1,9 @@
 // Small facts of numbers.
 ghost use mathlib.Core.Path.{_≡_};
-ghost use Prim.Native.Nat.{_-_, _<_, _≤_, min};
+ghost use Prim.Native.Nat.{_-_, _<_, _≤_};
 
 // Above 18 times every amount: no price rises higher.
 pub(crate) const TOP: u32 = 1179631;
-
-// How many growers, or pilots, a square has room for.
-pub(crate) fn within(count: usize) -> usize
-    ensures { λ r. ⌜ (r ≡ min 16 count) × (r ≤ 16) ⌝ }
-{
-    if count < 16 { count } else { 16 }
-}
 
 pub(crate) fn wide(x: u16) -> u32
     ensures { λ r. ⌜ (r ≡ x) × (r < 65536) ⌝ }

@@ -7,7 +7,6 @@ ghost use Rattle.tables.specs.Pairs.{pairOf, PairsOfGrower, PairsOf};
 use crate::Pair;
 use crate::Quantity;
 use crate::tables::quantity_at;
-use crate::tables::within;
 
 // All quantities of a pair.
 fn pair_at(ticket: &[u16], settlement: &[u16], i: usize, j: usize) -> Pair
@@ -69,8 +68,8 @@ fn pair_row(ticket: &[u16], settlement: &[u16], i: usize, m: usize) -> [Pair; 16
 pub fn pair_square(ticket: &[u16], settlement: &[u16], n: usize, m: usize) -> [[Pair; 16]; 16]
     ensures { λ r. ⌜ PairsOf (ticketOf (now (ticket .entry))) (settlementOf (now (settlement .entry))) (min 16 n) (min 16 m) r ⌝ }
 {
-    let rows = within(n);
-    let columns = within(m);
+    let rows = grid::within(n);
+    let columns = grid::within(m);
     let mut pairs = no_pair_rows();
     for i in 0..rows {
         pairs[i] = pair_row(ticket, settlement, i, columns);

@@ -7,17 +7,6 @@ ghost use Rattle.tables.specs.View.{growersOf, pilotsOf, pairPlace, plac
 ghost use Rattle.grid.specs.Fill.{FilledRow};
 use crate::Quantity;
 
-// As many of a list's growers, or pilots, as a square has room for.
-pub(crate) fn within(count: usize) -> usize
-    ensures { λ r. ⌜ r ≡ min 16 count ⌝ }
-{
-    if count < grid::SIDE {
-        count
-    } else {
-        grid::SIDE
-    }
-}
-
 // Where the k-th of `each` numbers of a pair stands. The product is proved to fit here, once.
 fn pair_place(start: usize, each: usize, k: usize, m: usize, i: usize, j: usize) -> usize
     requires { ⌜ (start < 200000) × (each < 6) × (k < 5) × (m < 65536) × (i < 16) × (j < 16) ⌝ }
@@ -84,8 +73,8 @@ pub fn square(list: &[u16], quantity: Quantity) -> [[u16; 16]; 16]
     ensures { λ r. ⌜ Filled (quantityOf quantity (now (list .entry)))
         (min 16 (growersOf (now (list .entry)))) (min 16 (pilotsOf (now (list .entry)))) r ⌝ }
 {
-    let rows = within(growers(list));
-    let columns = within(pilots(list));
+    let rows = grid::within(growers(list));
+    let columns = grid::within(pilots(list));
     let mut q = grid::zeros();
     for i in 0..rows {
         for j in 0..columns {
@@ -100,7 +89,7 @@ fn row(list: &[u16], from: usize, count: usize) -> [u16; 16]
     requires { ⌜ from < 200000 ⌝ }
     ensures { λ r. ⌜ FilledRow (λ i. getD (now (list .entry)) (from + i) 0) (min 16 count) r ⌝ }
 {
-    let end = within(count);
+    let end = grid::within(count);
     let mut r = grid::zero_row();
     for i in 0..end {
         r[i] = grid::entry(list, from + i);

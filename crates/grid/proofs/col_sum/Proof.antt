@@ -29,11 +29,10 @@ loop-again c =
 returns : tie.Need-returns Inv-loop μ-loop
 returns c =
     let s = c .before .before .before in
-    let w = c .before .before .within .ensures in
     let e : c .before .loop .i ≡ c .before .before .within .result = omega arith in
     c .before .loop .inv .2
     ∙ ap (λ (x : ℕ). colSum (s .args .sq) (s .args .j) x) e
-    ∙ colSum-cut (s .args .sq) (square-is _ _ (s .good .0)) (s .args .j) (s .args .n) _ (w .1) (w .2)
+    ∙ colSum-cut (s .args .sq) (square-is _ _ (s .good .0)) (s .args .j) (s .args .n) _ (λ h. omega arith) (λ h. omega arith)
 
 pub col-sum-spec : {M : Type 1} → statement M
 col-sum-spec =

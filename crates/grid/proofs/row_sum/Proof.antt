@@ -29,11 +29,10 @@ loop-again c =
 returns : tie.Need-returns Inv-loop μ-loop
 returns c =
     let s = c .before .before .before in
-    let w = c .before .before .within .ensures in
     let e : c .before .loop .j ≡ c .before .before .within .result = omega arith in
     c .before .loop .inv .2
     ∙ ap (λ (x : ℕ). rowSum (s .args .sq) (s .args .i) x) e
-    ∙ rowSum-cut (s .args .sq) (square-is _ _ (s .good .0)) (s .args .i) (s .args .m) _ (w .1) (w .2)
+    ∙ rowSum-cut (s .args .sq) (square-is _ _ (s .good .0)) (s .args .i) (s .args .m) _ (λ h. omega arith) (λ h. omega arith)
 
 pub row-sum-spec : {M : Type 1} → statement M
 row-sum-spec =

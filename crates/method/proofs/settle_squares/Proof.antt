@@ -1,5 +1,6 @@
 -- `method::settle_squares` meets its contract.
 -- Assumes nothing.
+use native.Mathlib.Omega.{arith}
 use Rattle.method.specs.View.{ticket}
 use Rattle.method.specs.State.{Fit}
 use Rattle.method.proofs.Bounds.{fits}
@@ -13,14 +14,14 @@ the-ticket-fits : (c : tie.After-within2) → let a = c .before .before .args in
     Fit (ticket (c .before .within .result) (c .within2 .result) (a .grower-hours) (a .pilot-hours) (a .terms))
 the-ticket-fits c =
     let a = c .before .before .args in
-    fits (c .before .within .result) (c .within2 .result) (a .grower-hours) (a .pilot-hours) (a .terms) _ (c .before .within .ensures .1) (c .within2 .ensures .1) (c .before .before .good .1 .1 .1 .1 .0)
+    fits (c .before .within .result) (c .within2 .result) (a .grower-hours) (a .pilot-hours) (a .terms) _ (omega arith) (omega arith) (c .before .before .good .1 .1 .1 .1 .0)
 
 run-requires : tie.Need-run-requires
 run-requires c κs = (the-ticket-fits (c .before .before), c .before .zero-prices .ensures)
 
 flown-square-requires : tie.Need-flown-square-requires
 flown-square-requires c κs = (
-  (c .before .before .before .before .before .within .ensures .1, c .before .before .before .before .within2 .ensures .1, c .rounding .ensures .small, c .before .run .ensures .live .low),
+  (omega arith, omega arith, c .rounding .ensures .small, c .before .run .ensures .live .low),
   λ i j hi hj. free-hours-fit _ _ _ (the-ticket-fits (c .before .before .before .before)) (c .before .run .ensures .live) i j hi hj,
 )
 
