@@ -35,14 +35,6 @@ fn both_in_range(growers: usize, pilots: usize) -> bool
     in_range(growers) && in_range(pilots)
 }
 
-// The product is proved to fit here, once.
-fn pairs(growers: usize, pilots: usize) -> usize
-    requires { ⌜ (growers ≤ 16) × (pilots ≤ 16) ⌝ }
-    ensures { λ r. ⌜ (r ≡ growers * pilots) × (r ≤ 256) ⌝ }
-{
-    growers * pilots
-}
-
 // Writes a ticket's numbers to the front of a list.
 fn fill(list: &mut [u16], growers: usize, pilots: usize, pairs: usize, x: u32)
     requires { ⌜ (growers ≤ 16) × (pilots ≤ 16) × (pairs ≡ growers * pilots) × (pairs ≤ 256) ⌝ }
@@ -63,7 +55,7 @@ fn deliver(x: u32, growers: usize, pilots: usize, list: &mut [u16]) -> Reply
     ensures { λ r. ⌜ r ≡ reply (length (now (list .entry))) (Numbers (ticketFrom growers pilots x)) ⌝ }
     ensures { λ _. ⌜ now (list .exit) ≡ kept (now (list .entry)) (Numbers (ticketFrom growers pilots x)) ⌝ }
 {
-    let pairs = pairs(growers, pilots);
+    let pairs = grid::pairs(growers, pilots);
     let count = 3 + growers + pilots + 5 * pairs;
     if list.len() < count {
         return Reply::Refused { why: NO_ROOM };

@@ -1,6 +1,6 @@
 // Rows and squares of numbers: the functions that several crates need. Each answers on every input.
 ghost use mathlib.Core.Path.{_≡_};
-ghost use Prim.Native.Nat.{ℕ, _<_, min};
+ghost use Prim.Native.Nat.{ℕ, _*_, _<_, min};
 ghost use lib.ListN.{getD, take};
 ghost use Rattle.grid.specs.Grid.{at, Square, Row};
 ghost use Rattle.grid.specs.Lines.{rowSum, colSum};
@@ -13,6 +13,13 @@ pub fn within(count: usize) -> usize
     ensures { λ r. ⌜ (r ≡ min 16 count) × (r < 17) ⌝ }
 {
     if count < SIDE { count } else { SIDE }
+}
+
+// How many pairs those make. The product is proved to fit here, once.
+pub fn pairs(growers: usize, pilots: usize) -> usize
+    ensures { λ r. ⌜ (r ≡ min 16 growers * min 16 pilots) × (growers < 17 → pilots < 17 → r ≡ growers * pilots) × (r < 257) ⌝ }
+{
+    within(growers) * within(pilots)
 }
 
 // A number at the width that sums are taken in.

@@ -14,7 +14,6 @@ use crate::Verdict;
 use crate::cheap_spares::below;
 use crate::cheap_spares::both_below;
 use crate::cheap_spares::cheapest_spare;
-use crate::pair_faults::pairs;
 use crate::parties::all_pilots;
 use crate::parties::grower_at;
 use crate::parties::pilot_at;
@@ -128,7 +127,7 @@ pub(crate) fn first_wrong_deal(
     ensures { λ r. ⌜ r ≡ first (dealFaultAt (ticketOf (now (ticket .entry))) (settlementOf (now (settlement .entry)))) (2 * (n * m)) ⌝ }
 {
     let pilots = all_pilots(ticket, settlement, n, m);
-    let mut place = 2 * pairs(n, m);
+    let mut place = 2 * grid::pairs(n, m);
     'search: for i in 0..n {
         let grower = grower_at(ticket, settlement, i, m);
         for j in 0..m {

@@ -11,7 +11,6 @@ use crate::deal_faults::first_wrong_deal;
 use crate::deal_faults::verdict_at;
 use crate::pair_faults::first_wrong_pair;
 use crate::pair_faults::pair_verdict_at;
-use crate::pair_faults::pairs;
 use crate::party_hours::first_grower_over;
 use crate::party_hours::first_pilot_over;
 use tables::Pair;
@@ -32,7 +31,7 @@ fn judge_deals(
     ensures { λ r. ⌜ r ≡ dealsJudged (ticketOf (now (ticket .entry))) (settlementOf (now (settlement .entry))) ⌝ }
 {
     let place = first_wrong_deal(ticket, settlement, square, n, m);
-    let end = 2 * pairs(n, m);
+    let end = 2 * grid::pairs(n, m);
     if end <= place {
         return Verdict::Sound { count: end };
     }
@@ -71,7 +70,7 @@ pub(crate) fn judge(ticket: &[u16], settlement: &[u16]) -> Verdict
     let m = pilots(ticket);
     let square = pair_square(ticket, settlement, n, m);
     let place = first_wrong_pair(square, n, m);
-    if place < pairs(n, m) {
+    if place < grid::pairs(n, m) {
         return pair_verdict_at(square, n, m, place);
     }
     judge_hours(ticket, settlement, square, n, m)

@@ -1,6 +1,6 @@
 // Pairs: verdicts 2 to 4.
 ghost use mathlib.Core.Path.{_≡_};
-ghost use Prim.Native.Nat.{_+_, _*_, _<_, _≤_};
+ghost use Prim.Native.Nat.{_*_, _<_, _≤_};
 ghost use Rattle.grid.specs.First.{first};
 ghost use Rattle.marker.specs.Verdict.{payTest, byPair};
 ghost use Rattle.marker.specs.Tables.{pairTestIn, wrongPairIn, pairVerdictIn};
@@ -21,14 +21,6 @@ fn wrong_pair(pair: Pair) -> bool
         || (pair.free_cap < pair.free_hours || wrong_pay(pair.joint, pair.free_hours, pair.pay))
 }
 
-// How many pairs there are. The product is proved to fit here, once.
-pub(crate) fn pairs(n: usize, m: usize) -> usize
-    requires { ⌜ (n ≤ 16) × (m ≤ 16) ⌝ }
-    ensures { λ r. ⌜ (r ≡ n * m) × (r < 257) ⌝ }
-{
-    n * m
-}
-
 // The first pair at fault, at place i * m + j.
 pub(crate) fn first_wrong_pair(square: [[Pair; 16]; 16], n: usize, m: usize) -> usize
     requires { ⌜ (n ≤ 16) × (m ≤ 16) ⌝ }
@@ -38,11 +30,11 @@ pub(crate) fn first_wrong_pair(square: [[Pair; 16]; 16], n: usize, m: usize) -> 
         for j in 0..m {
             let pair = square[i][j];
             if wrong_pair(pair) {
-                return pairs(i, m) + j;
+                return grid::pairs(i, m) + j;
             }
         }
     }
-    pairs(n, m)
+    grid::pairs(n, m)
 }
 
 // The verdict on the pair of grower i and pilot j.

@@ -3,21 +3,12 @@ mod listing;
 mod terms;
 
 ghost use mathlib.Core.Path.{_≡_};
-ghost use Prim.Native.Nat.{_*_, _<_, _≤_};
 ghost use lib.ListN.{length};
 ghost use Rattle.reader.specs.Answer.{unpacked};
 ghost use Rattle.settler.specs.Settled.{Answers, Settled};
 ghost use Rattle.settler.specs.FromList.{IsTicket, SoundFront};
 use reader::NO_ROOM;
 use reader::Reply;
-
-// The product is proved to fit here, once.
-fn pairs(growers: usize, pilots: usize) -> usize
-    requires { ⌜ (growers ≤ 16) × (pilots ≤ 16) ⌝ }
-    ensures { λ r. ⌜ (r ≡ growers * pilots) × (r < 257) ⌝ }
-{
-    growers * pilots
-}
 
 fn no_numbers() -> [u16; 1315]
     ensures { λ r. ⌜ length r ≡ 1315 ⌝ }
@@ -49,7 +40,7 @@ fn settle_numbers(ticket: &[u16], settlement: &mut [u8]) -> Reply
 {
     let growers = grid::index(grid::entry(ticket, 1));
     let pilots = grid::index(grid::entry(ticket, 2));
-    let pairs = pairs(growers, pilots);
+    let pairs = grid::pairs(growers, pilots);
     if settlement.len() < 3 + 4 * pairs {
         return Reply::Refused { why: NO_ROOM };
     }

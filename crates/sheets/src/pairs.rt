@@ -10,14 +10,6 @@ ghost use Rattle.sheets.specs.Sheet.{growerShare, lineIfHours, pairLines
 ghost use Rattle.sheets.specs.Squares.{numbersIn, lineIn, Printable};
 use crate::lines::amounts;
 
-// The product is proved to fit here, once.
-fn product(growers: usize, pilots: usize) -> usize
-    requires { ⌜ (growers ≤ 16) × (pilots ≤ 16) ⌝ }
-    ensures { λ r. ⌜ (r ≡ growers * pilots) × (r < 257) ⌝ }
-{
-    growers * pilots
-}
-
 // A grower or a pilot, as a number of the line.
 fn party(x: usize) -> u16
     requires { ⌜ x < 16 ⌝ }
@@ -106,7 +98,7 @@ pub(crate) fn pair_lines(
     ensures { λ r. ⌜ Wrote (now (page .entry)) (now (page .exit)) at r
         (pairLines (lineIn «tariff_hours» «tariff_gain» «tariff_pay» «free_hours» «joint_gain» pay) pilots (growers * pilots)) ⌝ }
 {
-    let end = product(growers, pilots);
+    let end = grid::pairs(growers, pilots);
     let mut here = at;
     for p in 0..end {
         let numbers = pair_numbers(

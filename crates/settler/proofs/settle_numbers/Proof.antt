@@ -1,6 +1,7 @@
 -- `settler::settle_numbers` meets its contract: too little room is refused, else the sound list is packed into the buffer.
 -- Assumes nothing.
 use mathlib.Core.Path.{_≡_, _∙_}
+use Prim.Native.Nat.{_*_}
 use native.Mathlib.Omega.{arith}
 use Rattle.reader.proofs.Facts.{unpacked-shape}
 use Rattle.tables.specs.View.{growersOf, pilotsOf}
@@ -18,16 +19,18 @@ growers-are c = c .before .before .index .ensures .0 ∙ c .before .before .befo
 pilots-are : (c : tie.After-index2) → c .index2 .result ≡ pilotsOf (c .before .before .before .before .before .before .args .ticket .now)
 pilots-are c = c .index2 .ensures .0 ∙ c .before .entry2 .ensures
 
-pairs-requires : tie.Need-pairs-requires
-pairs-requires c κs =
-    let is = c .before .before .before .before .before .before .pre in
+-- a ticket has at most 16 of each, so all pairs are counted
+all : (c : tie.After-pairs) → c .pairs .result ≡ c .before .before .before .index .result * c .before .index2 .result
+all c =
+    let q = c .before in
+    let is = q .before .before .before .before .before .before .pre in
     let s = unpacked-shape (is .bytes) _ (is .from) in
-    (omega (arith, growers-are c, s .growers), omega (arith, pilots-are c, s .pilots))
+    c .pairs .ensures .1 (omega (arith, growers-are q, s .growers)) (omega (arith, pilots-are q, s .pilots))
 
 returns : tie.Need-returns
 returns c =
     let q = c .before .before in
-    room-answers _ _ _ _ _ (growers-are q) (pilots-are q) (c .before .pairs .ensures .0) (c .if1 .taken)
+    room-answers _ _ _ _ _ (growers-are q) (pilots-are q) (all (c .before)) (c .if1 .taken)
 
 returns-2 : tie.Need-returns-2
 returns-2 c =
@@ -35,7 +38,7 @@ returns-2 c =
     let q = c .before .before .before .before .before .before .before .before .before in
     written-answers _ (c .before .before .before .before .before .before .sound-list .result) _ _ _ _ _ _ _
     (q .before .before .before .before .before .before .pre) (c .before .before .before .before .before .before .sound-list .ensures)
-    (growers-are q) (pilots-are q) (c .before .before .before .before .before .before .before .before .pairs .ensures .0)
+    (growers-are q) (pilots-are q) (all (c .before .before .before .before .before .before .before .before))
     (c .before .before .before .before .front .ensures) (c .before .before .before .before .before .before .before .if1 .left) (w .ensures .0) (w .ensures .1)
 
 pub settle-numbers-spec : {M : Type 1} → statement M
@@ -46,7 +49,7 @@ settle-numbers-spec =
     (λ c κs. search needs)
     (λ c κs. search needs)
     (λ c κs. search needs)
-    pairs-requires
+    (λ c κs. search needs)
     (λ c. search needs)
     (λ c. search needs)
     returns

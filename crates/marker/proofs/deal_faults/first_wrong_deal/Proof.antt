@@ -50,7 +50,7 @@ deal-place-requires c κs = let z = c .before .before .before .before .before .b
     (z .fewGrowers, z .fewPilots, c .before .before .before .before .before .before .before .before .before .search-test .taken, c .before .before .before .before .before .before .loop-test .taken, c .before .before .loop2-test .taken)
 
 search-holds : tie.Need-search-holds Inv-loop2 μ-loop2 Inv-loop μ-loop Inv-search μ-search
-search-holds c = (omega arith, (λ q h. absurd (omega arith)), omega arith)
+search-holds c = (omega arith, (λ q h. absurd (omega arith)), omega (arith, c .pairs .ensures .1 (omega arith) (omega arith)))
 
 loop-holds : tie.Need-loop-holds Inv-loop2 μ-loop2 Inv-loop μ-loop Inv-search μ-search
 loop-holds c = (omega arith, none-le _ _ _ (c .before .before .search .inv .1) (omega arith), omega arith)

@@ -1,6 +1,6 @@
 -- `marker::judge` meets its contract: a place before the end is the first pair at fault; else hours and deals are judged.
-use Prim.Native.Nat.{min}
-use mathlib.Core.Path.{_∙_}
+use mathlib.Core.Path.{_≡_, _∙_}
+use Prim.Native.Nat.{_*_, min}
 use native.Mathlib.Omega.{arith}
 use Rattle.tables.specs.View.{ticketOf, settlementOf}
 use Rattle.tables.specs.Pairs.{PairsOf}
@@ -23,6 +23,14 @@ filled c =
     pairs-as (ticketOf (a .ticket .now)) (settlementOf (a .settlement .now)) (min 16 n) (min 16 m) n m (c .pair-square .result)
     (omega arith) (omega arith) (c .pair-square .ensures)
 
+-- and so are all pairs counted
+all : (c : tie.After-pairs) →
+    c .pairs .result ≡ c .before .before .before .before .growers .result * c .before .before .before .pilots .result
+all c = c .pairs .ensures .1 (omega arith) (omega arith)
+
+pair-verdict-at-requires : tie.Need-pair-verdict-at-requires
+pair-verdict-at-requires c κs = (omega arith, omega arith, omega (arith, all (c .before)))
+
 judge-hours-requires : tie.Need-judge-hours-requires
 judge-hours-requires c κs = (
   record {
@@ -44,9 +52,9 @@ returns c =
     let square = c .before .before .before .before .pair-square .result in
     let is = filled (c .before .before .before .before) in
     c .pair-verdict-at .ensures
-    ∙ pair-verdict t x n m square is (c .before .before .before .first-wrong-pair .result) (omega arith)
+    ∙ pair-verdict t x n m square is (c .before .before .before .first-wrong-pair .result) (omega (arith, all (c .before .before)))
     ∙ pair-judged (a .ticket .now) x n m (c .before .before .before .before .before .before .growers .ensures .0) (c .before .before .before .before .before .pilots .ensures .0) _
-    (c .before .before .before .first-wrong-pair .ensures ∙ first-pair t x n m square is) (omega arith)
+    (c .before .before .before .first-wrong-pair .ensures ∙ first-pair t x n m square is) (omega (arith, all (c .before .before)))
 
 returns-2 : tie.Need-returns-2
 returns-2 c =
@@ -57,7 +65,7 @@ returns-2 c =
     let m = c .before .before .before .before .before .pilots .result in
     c .judge-hours .ensures
     ∙ pairs-judged (a .ticket .now) x n m (c .before .before .before .before .before .before .growers .ensures .0) (c .before .before .before .before .before .pilots .ensures .0) _
-    (c .before .before .before .first-wrong-pair .ensures ∙ first-pair t x n m (c .before .before .before .before .pair-square .result) (filled (c .before .before .before .before))) (omega arith)
+    (c .before .before .before .first-wrong-pair .ensures ∙ first-pair t x n m (c .before .before .before .before .pair-square .result) (filled (c .before .before .before .before))) (omega (arith, all (c .before .before)))
 
 pub judge-spec : {M : Type 1} → statement M
 judge-spec =
@@ -68,7 +76,7 @@ judge-spec =
     (λ c κs. search needs)
     (λ c κs. search needs)
     (λ c κs. search needs)
-    (λ c κs. search needs)
+    pair-verdict-at-requires
     returns
     judge-hours-requires
     returns-2)

@@ -39,7 +39,7 @@ returns : tie.Need-returns Inv-loop2 μ-loop2 Inv-loop μ-loop
 returns c =
     let w = c .before .before in
     let a = w .before .before .before .before .before .before .args in
-    rw (c .pairs .ensures .0)
+    rw (c .pairs .ensures .1 (omega arith) (omega arith))
     (sym (first-is _ _ _ (omega (arith, row-within (w .before .before .before .before .before .loop .i) (a .n) (a .m) (omega arith))) (w .before .before .before .loop2 .inv .1)
     (λ _. there w ∙ c .before .if1 .taken)))
 
@@ -56,7 +56,7 @@ returns-2 : tie.Need-returns-2 Inv-loop2 μ-loop2 Inv-loop μ-loop
 returns-2 c =
     let a = c .before .before .before .args in
     let e : c .before .before .loop .i ≡ a .n = omega arith in
-    c .pairs2 .ensures .0
+    c .pairs2 .ensures .1 (omega arith) (omega arith)
     ∙ sym (first-is _ _ _ (omega arith) (none-le _ _ _ (c .before .before .loop .inv .1) (omega (arith, ap (λ (k : ℕ). k * a .m) e)))
     (λ h. absurd (omega arith)))
 

@@ -22,10 +22,14 @@ abbrev μ-loop : tie.MeasureT-loop
 loop-holds : tie.Need-loop-holds Inv-loop μ-loop
 loop-holds c = (omega arith, no-pairs _ _ _ _)
 
+-- there are at most 16 growers and pilots, so all pairs are counted
+all : (c : tie.After-pairs Inv-loop μ-loop) → c .pairs .result ≡ c .before .args .growers * c .before .args .pilots
+all c = c .pairs .ensures .1 (omega arith) (omega arith)
+
 -- the pair of a turn is within the market
 pair : (c : tie.In-loop Inv-loop μ-loop) →
     Inside (c .before .before .before .args .growers) (c .before .before .before .args .pilots) (c .before .loop .p)
-pair c = inside _ _ _ (omega (arith, c .loop-test .taken, c .before .before .product .ensures .0))
+pair c = inside _ _ _ (omega (arith, c .loop-test .taken, all (c .before .before)))
 
 div-pair-numbers : tie.Need-div-pair-numbers Inv-loop μ-loop
 div-pair-numbers c = let w = pair c in search needs
@@ -42,7 +46,7 @@ pair-line-requires c κs =
     let s = q .before .before .before in
     let a = s .args in
     turn-fits (a .tariff-hours) (a .tariff-gain) (a .tariff-pay) (a .free-hours) (a .joint-gain) (a .pay) _ (a .pilots) (q .before .loop .p) _ _
-    (pair q) (s .pre .1) (c .before .before .pair-numbers .ensures) (omega (arith, q .before .before .product .ensures .1))
+    (pair q) (s .pre .1) (c .before .before .pair-numbers .ensures) (omega (arith, q .before .before .pairs .ensures .2))
     (s .pre .0 .2) (q .before .loop .inv .1)
 
 loop-again : tie.Need-loop-again Inv-loop μ-loop
@@ -57,7 +61,7 @@ loop-again c =
 returns : tie.Need-returns Inv-loop μ-loop
 returns c =
     let s = c .before .before .before in
-    let e : c .before .loop .p ≡ s .args .growers * s .args .pilots = omega (arith, c .before .before .product .ensures .0) in
+    let e : c .before .loop .p ≡ s .args .growers * s .args .pilots = omega (arith, all (c .before .before)) in
     rw e at (c .before .loop .inv .1)
 
 pub pair-lines-spec : {M : Type 1} → statement M
