@@ -72,7 +72,7 @@ fn mark(ticket: &[u8]) {
 
 // A ticket's numbers, a party or a pair to a line.
 fn unpack(ticket: &[u8]) {
-    let mut numbers = room::ticket_numbers();
+    let mut numbers = tables::ticket_list();
     let reply = reader::unpack(ticket, &mut numbers);
     match reply {
         Reply::Refused { why } => refused(why),
@@ -109,7 +109,7 @@ fn pack_numbers(numbers: &[u16], argument: usize) {
 }
 
 fn pack_text(text: &[u8]) {
-    let mut numbers = room::ticket_numbers();
+    let mut numbers = tables::ticket_list();
     let listed = texts::read_numbers(text, &mut numbers);
     match listed {
         Listed::Wrong { line } => {
@@ -134,7 +134,7 @@ pub(crate) fn pack() {
 }
 
 fn draw_ticket(seed: u16, growers: u16, pilots: u16) {
-    let mut numbers = room::ticket_numbers();
+    let mut numbers = tables::ticket_list();
     let reply = draws::draw(
         grid::wide(seed),
         grid::index(growers),

@@ -1,4 +1,4 @@
-// Room for the files and lists of the exchange.
+// Room for the files, sheets and lines of the exchange.
 
 // One byte more than the longest ticket has, so that a longer file is refused as one that has bytes left.
 pub(crate) fn ticket_bytes() -> [u8; 2084] {
@@ -8,10 +8,6 @@ pub(crate) fn ticket_bytes() -> [u8; 2084] {
 // One byte more than the longest settlement of 16 by 16 pairs has: three, and six for each pair.
 pub(crate) fn settlement_bytes() -> [u8; 1540] {
     [0; 1540]
-}
-
-pub(crate) fn ticket_numbers() -> [u16; 1315] {
-    [0; 1315]
 }
 
 pub(crate) fn page() -> [u8; 8216] {

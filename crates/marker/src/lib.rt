@@ -1,7 +1,6 @@
 // Marking: whether a settlement of a ticket is sound, and if not, its first fault.
 ghost use mathlib.Core.Path.{_≡_};
 ghost use Prim.Native.Nat.{_≤_};
-ghost use lib.ListN.{length};
 ghost use Rattle.grid.specs.Grid.{at};
 ghost use Rattle.grid.specs.First.{first};
 ghost use Rattle.tables.specs.View.{growersOf, pilotsOf};
@@ -74,18 +73,6 @@ pub(crate) struct Party {
     pub(crate) share: [u16; 16],
 }
 
-fn no_ticket() -> [u16; 1315]
-    ensures { λ r. ⌜ length r ≡ 1315 ⌝ }
-{
-    [0; 1315]
-}
-
-fn no_settlement() -> [u16; 771]
-    ensures { λ r. ⌜ length r ≡ 771 ⌝ }
-{
-    [0; 771]
-}
-
 // Marks a settlement's bytes against a ticket's numbers.
 fn mark_against(ticket: &[u16], settlement: &[u8]) -> Verdict
     requires { ⌜ (growersOf (now ticket) ≤ 16) × (pilotsOf (now ticket) ≤ 16) ⌝ }
@@ -94,7 +81,7 @@ fn mark_against(ticket: &[u16], settlement: &[u8]) -> Verdict
 {
     let growers = grid::index(grid::entry(ticket, 1));
     let pilots = grid::index(grid::entry(ticket, 2));
-    let mut numbers = no_settlement();
+    let mut numbers = tables::settlement_list();
     let reply = reader::read_settlement(settlement, growers, pilots, &mut numbers);
     match reply {
         Reply::Refused { why } => Verdict::Refused { why },
@@ -106,7 +93,7 @@ fn mark_against(ticket: &[u16], settlement: &[u8]) -> Verdict
 pub fn mark(ticket: &[u8], settlement: &[u8]) -> Verdict
     ensures { λ r. ⌜ r ≡ marked (now (ticket .entry)) (now (settlement .entry)) ⌝ }
 {
-    let mut numbers = no_ticket();
+    let mut numbers = tables::ticket_list();
     let reply = reader::unpack(ticket, &mut numbers);
     match reply {
         Reply::Refused { why } => Verdict::Refused { why },

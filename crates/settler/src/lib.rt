@@ -2,19 +2,11 @@
 mod listing;
 mod terms;
 
-ghost use mathlib.Core.Path.{_≡_};
-ghost use lib.ListN.{length};
 ghost use Rattle.reader.specs.Answer.{unpacked};
 ghost use Rattle.settler.specs.Settled.{Answers, Settled};
 ghost use Rattle.settler.specs.FromList.{IsTicket, SoundFront};
 use reader::NO_ROOM;
 use reader::Reply;
-
-fn no_numbers() -> [u16; 1315]
-    ensures { λ r. ⌜ length r ≡ 1315 ⌝ }
-{
-    [0; 1315]
-}
 
 // The numbers of a sound settlement of a ticket.
 fn sound_list(ticket: &[u16]) -> [u16; 771]
@@ -57,7 +49,7 @@ fn settle_numbers(ticket: &[u16], settlement: &mut [u8]) -> Reply
 pub fn settle(ticket: &[u8], settlement: &mut [u8]) -> Reply
     ensures { λ r. ⌜ Settled (unpacked (now (ticket .entry))) (now (settlement .entry)) (now (settlement .exit)) r ⌝ }
 {
-    let mut numbers = no_numbers();
+    let mut numbers = tables::ticket_list();
     let reply = reader::unpack(ticket, &mut numbers);
     match reply {
         Reply::Refused { why } => Reply::Refused { why },

@@ -16,12 +16,6 @@ fn count(x: usize) -> u16
     x as u16
 }
 
-fn blank() -> [u16; 771]
-    ensures { λ r. ⌜ length r ≡ 771 ⌝ }
-{
-    [0u16; 771]
-}
-
 // Three numbers from a place on.
 fn write_three(list: &mut [u16; 771], place: usize, x: u16, y: u16, z: u16)
     requires { ⌜ (length (now list) ≡ 771) × (place + 2 < 771) ⌝ }
@@ -37,7 +31,7 @@ pub(crate) fn listed(growers: usize, pilots: usize, flown: [[Flown; 16]; 16]) ->
     requires { ⌜ (growers ≤ 16) × (pilots ≤ 16) ⌝ }
     ensures { λ r. ⌜ (length r ≡ 771) × Listed growers pilots flown r ⌝ }
 {
-    let mut list = blank();
+    let mut list = tables::settlement_list();
     write_three(&mut list, 0, SETTLEMENT, count(growers), count(pilots));
     let pairs = growers * pilots;
     for k in 0..pairs {

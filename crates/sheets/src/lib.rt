@@ -30,18 +30,6 @@ fn blank() -> [u8; 8216]
     [0; PAGE]
 }
 
-fn no_numbers() -> [u16; 1315]
-    ensures { λ r. ⌜ length r ≡ 1315 ⌝ }
-{
-    [0; 1315]
-}
-
-fn no_settlement() -> [u16; 771]
-    ensures { λ r. ⌜ length r ≡ 771 ⌝ }
-{
-    [0; 771]
-}
-
 // Room for every settlement: three bytes, and four for each of 256 pairs.
 fn no_bytes() -> [u8; 1027]
     ensures { λ r. ⌜ length r ≡ 1027 ⌝ }
@@ -67,7 +55,7 @@ fn print_file(page: &mut [u8; 8216], ticket: &[u8], numbers: &[u16], file: &[u8]
 {
     let growers = grid::index(grid::entry(numbers, 1));
     let pilots = grid::index(grid::entry(numbers, 2));
-    let mut list = no_settlement();
+    let mut list = tables::settlement_list();
     let reply = reader::read_settlement(file, growers, pilots, &mut list);
     match reply {
         Reply::Refused { why: _ } => 0,
@@ -97,7 +85,7 @@ fn print_settled(page: &mut [u8; 8216], ticket: &[u8], numbers: &[u16]) -> usize
 fn print(page: &mut [u8; 8216], ticket: &[u8]) -> usize
     ensures { λ r. ⌜ Printed (unpacked (now (ticket .entry))) (now (page .entry)) (now (page .exit)) r ⌝ }
 {
-    let mut numbers = no_numbers();
+    let mut numbers = tables::ticket_list();
     let reply = reader::unpack(ticket, &mut numbers);
     match reply {
         Reply::Refused { why } => counted(page, 0, b"REFUSED ", why as usize),

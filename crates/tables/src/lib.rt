@@ -1,8 +1,11 @@
-// A ticket's numbers and a settlement's as squares and rows: quantity by quantity, and pair by pair. Each function answers on every
-// input, as far as a square reaches.
+// A ticket's numbers and a settlement's as squares and rows: quantity by quantity, and pair by pair; and room for them. Each function
+// answers on every input, as far as a square reaches.
+mod lists;
 mod pairs;
 mod tables;
 
+pub use lists::settlement_list;
+pub use lists::ticket_list;
 pub use pairs::pair_square;
 pub use tables::grower_hours;
 pub use tables::growers;

@@ -110,14 +110,6 @@ fn spare_of_pilot(j: usize, offer: Spare) {
     end_line(STDOUT_FILENO);
 }
 
-fn no_ticket() -> [u16; 1315] {
-    [0; 1315]
-}
-
-fn no_settlement() -> [u16; 771] {
-    [0; 771]
-}
-
 fn earned(gain: [[u16; 16]; 16], i: usize, j: usize, words: &[u8]) {
     counted(STDOUT_FILENO, words, grid::cell(gain, i, j));
 }
@@ -142,14 +134,14 @@ fn gains(ticket: &[u16], settlement: &[u16], i: usize, j: usize, deal: Deal) {
 
 // The same of files, which have been read before.
 fn gains_of_files(ticket: &[u8], settlement: &[u8], i: usize, j: usize, deal: Deal) {
-    let mut terms = no_ticket();
+    let mut terms = tables::ticket_list();
     let Reply::Done { count } = reader::unpack(ticket, &mut terms) else {
         return;
     };
     let numbers = grid::front(&terms, count);
     let growers = grid::index(grid::entry(numbers, 1));
     let pilots = grid::index(grid::entry(numbers, 2));
-    let mut agreed = no_settlement();
+    let mut agreed = tables::settlement_list();
     let Reply::Done { count: agreements } = reader::read_settlement(
         settlement,
         growers,

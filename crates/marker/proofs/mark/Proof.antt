@@ -21,7 +21,7 @@ mark-against-requires c κs = few-parties _ _ (numbers-are c)
 
 returns : tie.Need-returns
 returns c =
-    refused-ticket _ _ (c .before .before .before .before .before .before .no-ticket .result) _ (c .before .before .before .before .before .before .no-ticket .ensures)
+    refused-ticket _ _ (c .before .before .before .before .before .before .ticket-list .result) _ (c .before .before .before .before .before .before .ticket-list .ensures .1)
     (sym (c .before .reply .given .1) ∙ c .before .before .before .before .unpack .ensures .0)
 
 returns-2 : tie.Need-returns-2

@@ -33,9 +33,9 @@ returns : tie.Need-returns
 returns c =
     let q = c .before .before .before .before .before .before .before in
     let few = q .before .before .before .before .before .before .pre in
-    refused-answer (q .before .before .before .before .before .before .args .ticket .now) _ (c .before .before .before .before .before .before .no-settlement .result) _ _ _ (growers-are q) (pilots-are q)
+    refused-answer (q .before .before .before .before .before .before .args .ticket .now) _ (c .before .before .before .before .before .before .settlement-list .result) _ _ _ (growers-are q) (pilots-are q)
     (omega (arith, growers-are q, few)) (omega (arith, pilots-are q, few))
-    (c .before .before .before .before .before .before .no-settlement .ensures) (sym (c .before .reply .given .1) ∙ c .before .before .before .before .read-settlement .ensures .0)
+    (c .before .before .before .before .before .before .settlement-list .ensures .1) (sym (c .before .reply .given .1) ∙ c .before .before .before .before .read-settlement .ensures .0)
 
 returns-2 : tie.Need-returns-2
 returns-2 c =

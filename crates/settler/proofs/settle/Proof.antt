@@ -23,7 +23,7 @@ settle-numbers-requires c κs = record { bytes = c .before .before .before .befo
 returns : tie.Need-returns
 returns c =
     let u = c .before .before .before .before .unpack in
-    refused-settles _ (c .before .before .before .before .before .before .no-numbers .result) _ _ (c .before .before .before .before .before .before .no-numbers .ensures) (sym (c .before .reply .given .1) ∙ u .ensures .0)
+    refused-settles _ (c .before .before .before .before .before .before .ticket-list .result) _ _ (c .before .before .before .before .before .before .ticket-list .ensures .1) (sym (c .before .reply .given .1) ∙ u .ensures .0)
 
 returns-2 : tie.Need-returns-2
 returns-2 c = answers-settle _ _ _ _ _ (numbers-are (c .before .before .before .before)) (c .before .before .settle-numbers .ensures)

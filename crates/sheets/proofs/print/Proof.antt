@@ -20,8 +20,8 @@ print-settled-requires c κs = numbers-are c
 
 returns : tie.Need-returns
 returns c =
-    let z = c .before .before .before .before .before .before .before .before .before .no-numbers in
-    printed-refused _ (z .result) _ _ _ _ (z .ensures) (sym (c .before .before .before .before .reply .given .1) ∙ c .before .before .before .before .before .before .before .unpack .ensures .0) (c .counted .ensures)
+    let z = c .before .before .before .before .before .before .before .before .before .ticket-list in
+    printed-refused _ (z .result) _ _ _ _ (z .ensures .1) (sym (c .before .before .before .before .reply .given .1) ∙ c .before .before .before .before .before .before .before .unpack .ensures .0) (c .counted .ensures)
 
 returns-2 : tie.Need-returns-2
 returns-2 c = printed-unpacked _ _ _ _ _ (numbers-are (c .before)) (c .print-settled .ensures)

@@ -31,8 +31,8 @@ settled-text-requires c κs =
 returns : tie.Need-returns
 returns c =
     let q = c .before .before .before .before .before .before in
-    let z = c .before .before .before .before .before .no-settlement in
-    file-not-refused (q .before .before .before .before .before .before .before .pre) _ _ (growers-are q) (pilots-are q) (z .result) _ (z .ensures) (sym (c .enum-told .given .1) ∙ c .before .before .before .read-settlement .ensures .0)
+    let z = c .before .before .before .before .before .settlement-list in
+    file-not-refused (q .before .before .before .before .before .before .before .pre) _ _ (growers-are q) (pilots-are q) (z .result) _ (z .ensures .1) (sym (c .enum-told .given .1) ∙ c .before .before .before .read-settlement .ensures .0)
 
 returns-2 : tie.Need-returns-2
 returns-2 c =

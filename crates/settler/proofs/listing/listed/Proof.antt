@@ -25,7 +25,7 @@ few : (c : tie.In-loop Inv-loop μ-loop) → c .before .before .before .before .
 few c = let s = c .before .before .before .before .before .before .before in prod-small _ _ (s .pre .0) (s .pre .1)
 
 write-three-requires : tie.Need-write-three-requires Inv-loop μ-loop
-write-three-requires c κs = (c .before .before .before .blank .ensures, omega arith)
+write-three-requires c κs = (c .before .before .before .settlement-list .ensures .1, omega arith)
 
 mul-pairs : tie.Need-mul-pairs Inv-loop μ-loop
 mul-pairs c = let s = c .before .before .before .before .before in
@@ -35,7 +35,7 @@ mul-pairs c = let s = c .before .before .before .before .before in
 loop-holds : tie.Need-loop-holds Inv-loop μ-loop
 loop-holds c = (
   search needs,
-  listed-start _ _ _ _ _ _ _ (c .before .before .before .before .blank .ensures) (c .before .before .count .ensures) (c .before .count2 .ensures) (c .write-three .ensures),
+  listed-start _ _ _ _ _ _ _ (c .before .before .before .before .settlement-list .ensures .1) (c .before .before .count .ensures) (c .before .count2 .ensures) (c .write-three .ensures),
 )
 
 div-pair : tie.Need-div-pair Inv-loop μ-loop
