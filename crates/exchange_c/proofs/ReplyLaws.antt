@@ -27,11 +27,8 @@ use Rattle.reader.proofs.TicketLaws.{shape}
 use Rattle.reader.proofs.Facts.{unpacked-shape, settlement-shape}
 use Rattle.tables.specs.View.{growersOf, pilotsOf}
 use Rattle.settler.specs.Settled.{SettledIn, Answers, Settled, roomFor}
-use Rattle.sheets.specs.Sheeted.{IsSheet, Sheeted}
-use Rattle.sheets.specs.Writing.{pageBytes}
-use Rattle.sheets.specs.Printing.{Settles}
-use Rattle.sheets.proofs.LineLaws.{line-short}
-use Rattle.sheets.proofs.PrintLaws.{sheet-short}
+use Rattle.sheets.specs.Sheeted.{Sheeted}
+use Rattle.sheets.proofs.PrintLaws.{text-short}
 use Rattle.exchange_c.specs.Replies.{replyNumber, replyOf, Small, NumberOf}
 
 -- A small count fits the number.
@@ -124,13 +121,6 @@ settle-small t lent after r same s = go (unpacked t) refl s
     go : (o : Outcome) → unpacked t ≡ o → Settled o lent after r → Small r
     go (Refusal w) e s = rw (s .0) tt
     go (Numbers xs) e s = answers xs e s
-
--- A sheet is at most a page.
-text-short : (t : List ℕ) (o : Outcome) (text : List ℕ) → unpacked t ≡ o → IsSheet o text → length text ≤ pageBytes
-text-short t (Refusal w) text e i = omega (arith, ap length i, line-short (w ∷ []))
-text-short t (Numbers xs) text e i =
-    let s : Settles t xs (i .file) (i .numbers) = record { unpacks = e; read = i .read; good = i .good } in
-    omega (arith, ap length (i .same), sheet-short s)
 
 pub sheet-small : (t lent after : List ℕ) (r : Reply) → Sheeted (unpacked t) lent after r → Small r
 sheet-small t lent after r s =

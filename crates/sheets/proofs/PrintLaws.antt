@@ -28,7 +28,7 @@ use Rattle.sheets.proofs.LineLaws.{line-short}
 use Rattle.sheets.proofs.SheetLaws.{lines-short, few-growers, few-pilots, all-deals-marked, all-deals-judged}
 
 -- Every sheet fits a page.
-pub sheet-short : {ticket xs file ys : List ℕ} → Settles ticket xs file ys → length (sheetText xs ys) ≤ pageBytes
+sheet-short : {ticket xs file ys : List ℕ} → Settles ticket xs file ys → length (sheetText xs ys) ≤ pageBytes
 sheet-short {ticket} {xs} {file} {ys} s =
     omega (
       arith,
@@ -141,13 +141,14 @@ module _ {o : Outcome} {blank page : List ℕ} {end : ℕ} (p : Printed o blank 
         ∙ sym (kept-with-room lent (p .text) (omega (arith, end-is)));
   }
 
--- A buffer as long as a page is never refused.
-text-short : (ticket : List ℕ) (o : Outcome) (text : List ℕ) → unpacked ticket ≡ o → IsSheet o text → length text ≤ pageBytes
+-- A sheet is at most a page.
+pub text-short : (ticket : List ℕ) (o : Outcome) (text : List ℕ) → unpacked ticket ≡ o → IsSheet o text → length text ≤ pageBytes
 text-short ticket (Refusal w) text e i = omega (arith, ap length i, line-short (w ∷ []))
 text-short ticket (Numbers xs) text e i =
     let s : Settles ticket xs (i .file) (i .numbers) = record { unpacks = e; read = i .read; good = i .good } in
     omega (arith, ap length (i .same), sheet-short s)
 
+-- A buffer as long as a page is never refused.
 pub page-suffices : (ticket lent after : List ℕ) (r : Reply) (s : Sheeted (unpacked ticket) lent after r) → pageBytes ≤ length lent →
     r ≡ Reply.Done (length (s .text))
 page-suffices ticket lent after r s h =
