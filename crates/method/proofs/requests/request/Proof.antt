@@ -14,7 +14,8 @@ wants : (c : tie.After-best-deal) → let a = c .before .before .before .before 
 wants c = let a = c .before .before .before .before .args in
     asks-for-best (a .pilots) (a .hours) (a .t1) (a .t2) (a .price .now) (c .best-deal .result) (omega arith) (c .best-deal .ensures)
 
-want : (c : tie.After-best) → let a = c .before .before .before .before .before .before .args in let g = c .best .given .0 in
+want : (c : tie.After-best) → let a = c .before .before .before .before .before .before .args in
+    let g = c .best .given .0 in
     Asked (alone (a .pilots) (a .hours) (a .t1)) (line (a .price .now)) (heldBy (a .t2)) 0 (Offer (g .0) (g .1 .0))
 want c = rw (c .best .given .1) at (wants (c .before .before))
 
