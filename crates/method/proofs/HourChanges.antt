@@ -142,6 +142,13 @@ module _ (held held′ : List (List Agreed)) (full : Full held′) (j k : ℕ) (
 pub aged-end : (held held′ : List (List Agreed)) (j k l : ℕ) → k ≡ l → Aged held held′ j k → Aged held held′ j l
 aged-end held held′ j k l e s = rw (sym e) s
 
+-- Where no pair holds an hour, there is none in any way.
+module _ (held : List (List Agreed)) (none : (i j : ℕ) → agreedAt held i j ≡ noHours) where
+  pub nothing-held : (q : Slot) (i j : ℕ) → heldIn held q i j ≡ 0
+  nothing-held byTariff i j = ap (λ (p : Agreed). hoursHeld p byTariff) (none i j)
+  nothing-held oldFree i j = ap (λ (p : Agreed). hoursHeld p oldFree) (none i j)
+  nothing-held newFree i j = ap (λ (p : Agreed). hoursHeld p newFree) (none i j)
+
 -- A square of the same row, in which nobody holds an hour.
 module _ (row : List Agreed) (none : (j : ℕ) → agreedIn row j ≡ noHours) where
   none-held : (n i j : ℕ) → agreedAt (replicate n row) i j ≡ noHours

@@ -1,7 +1,7 @@
 -- The hours that pilots have free, from turn to turn.
 -- Assumes nothing.
 use Prim.Native.Nat.{ℕ, _+_, _-_, _≤_, _<_}
-use mathlib.Core.Path.{_≡_, _∙_, ap}
+use mathlib.Core.Path.{_≡_, _∙_}
 use mathlib.Core.List.{List}
 use native.Mathlib.Omega.{arith}
 use lib.ListN.{set, length, length-set}
@@ -14,10 +14,11 @@ use Rattle.market.specs.Method.{Slot, byTariff, oldFree, newFree, hoursOf}
 use Rattle.market.specs.Steps.{Added}
 use Rattle.market.proofs.Adding.{usedByPilot-more, usedByPilot-same}
 use Rattle.method.specs.declared.Agreed.{Agreed}
-use Rattle.method.specs.View.{line, agreedAt, hoursHeld, heldIn, noHours}
+use Rattle.method.specs.View.{line, agreedAt, heldIn, noHours}
 use Rattle.method.specs.State.{FreeHours}
+use Rattle.method.proofs.HourChanges.{nothing-held}
 
--- at the start all
+-- at the start pilots have all their hours free
 pub free-start : (t : Ticket) (held : List (List Agreed)) (free : List ℕ) → length free ≡ 16 →
     ((j : ℕ) → line free j ≡ t .pilotHours j) → ((i j : ℕ) → agreedAt held i j ≡ noHours) → FreeHours t held free
 free-start t held free l all none = record {
@@ -26,14 +27,9 @@ free-start t held free l all none = record {
     arith,
     all j,
     sum-zero (t .growers),
-    sum-same (λ i. hoursOf (heldIn held) Tariff i j + hoursOf (heldIn held) Free i j) (λ i. 0) (t .growers) (λ i hi. omega (arith, nothing byTariff i j, nothing oldFree i j, nothing newFree i j)),
+    sum-same (λ i. hoursOf (heldIn held) Tariff i j + hoursOf (heldIn held) Free i j) (λ i. 0) (t .growers) (λ i hi. omega (arith, nothing-held held none byTariff i j, nothing-held held none oldFree i j, nothing-held held none newFree i j)),
   );
 }
-  where
-    nothing : (q : Slot) (i j : ℕ) → heldIn held q i j ≡ 0
-    nothing byTariff i j = ap (λ (p : Agreed). hoursHeld p byTariff) (none i j)
-    nothing oldFree i j = ap (λ (p : Agreed). hoursHeld p oldFree) (none i j)
-    nothing newFree i j = ap (λ (p : Agreed). hoursHeld p newFree) (none i j)
 
 module _ (t : Ticket) (held held′ : List (List Agreed)) (free : List ℕ) (before : FreeHours t held free) where
   -- x hours of pilot j come into a deal

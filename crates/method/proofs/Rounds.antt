@@ -24,6 +24,10 @@ pub record Working (t : Ticket) (prices : List ℕ) (held : List (List Agreed)) 
 abbrev pub left : Ticket → List ℕ → List (List Agreed) → ℕ → ℕ
 left t prices held k = 17 * leftToDo t prices held + (t .growers - k)
 
+pub left-less : (t : Ticket) (prices : List ℕ) (held : List (List Agreed)) (prices′ : List ℕ) (held′ : List (List Agreed)) (k : ℕ) →
+    t .growers ≤ 16 → Turned t prices held prices′ held′ → left t prices′ held′ 0 < left t prices held k
+left-less t prices held prices′ held′ k h turned = omega (arith, turned .less)
+
 module _ (t : Ticket) (prices : List ℕ) (held : List (List Agreed)) (free : List ℕ) where
   pub work-starts : (i : ℕ) → (0 < t .growers → i < t .growers) → Live t prices held → FreeHours t held free →
       Working t prices held free i 0
@@ -47,7 +51,3 @@ module _ (t : Ticket) (prices : List ℕ) (held : List (List Agreed)) (free : Li
 
     pub work-ends : t .growers ≤ k → Ended t prices held
     work-ends h = record { live = work .live; done = done-if-none-asks t (line prices) (heldIn held) i k (work .content) h (work .start) }
-
-  pub left-less : (prices′ : List ℕ) (held′ : List (List Agreed)) (k : ℕ) → t .growers ≤ 16 → Turned t prices held prices′ held′ →
-      left t prices′ held′ 0 < left t prices held k
-  left-less prices′ held′ k h turned = omega (arith, turned .less)

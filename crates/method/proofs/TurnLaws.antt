@@ -10,7 +10,7 @@ use Rattle.grid.proofs.Cases.{by-index}
 use Rattle.market.specs.declared.Deal.{Deal}
 use Rattle.market.specs.declared.Deal.the-variants.{Tariff, Free}
 use Rattle.market.specs.Market.{Ticket, cap, usedByGrower, usedByPilot}
-use Rattle.market.specs.Method.{Slot, byTariff, oldFree, newFree, hoursOf, slotFor, Invariant}
+use Rattle.market.specs.Method.{byTariff, oldFree, newFree, hoursOf, slotFor, Invariant}
 use Rattle.market.specs.Steps.{BestDeal, Late, NoLateHour, Raised, Added}
 use Rattle.market.proofs.Deals.{best-deal, not-late, below-top}
 use Rattle.market.proofs.Squares.{raised-of}
@@ -22,6 +22,7 @@ use Rattle.method.specs.State.{Fit, Live, Turned}
 use Rattle.method.specs.Choice.{Wanted}
 use Rattle.method.specs.LateHours.{lateSlot, HasLate}
 use Rattle.method.specs.Changes.{Full, Aged}
+use Rattle.method.proofs.HourChanges.{nothing-held}
 
 -- the free hours of a pair fit its cells
 pub free-hours-fit : (t : Ticket) (prices : List ℕ) (held : List (List Agreed)) → Fit t → Live t prices held → (i j : ℕ) →
@@ -120,13 +121,8 @@ module _ (t : Ticket) (prices : List ℕ) (held : List (List Agreed)) (fit : Fit
 -- At the start all is 0.
 module _ (t : Ticket) (prices : List ℕ) (held : List (List Agreed)) (fit : Fit t) (zp : (j : ℕ) → line prices j ≡ 0)
     (zh : (i j : ℕ) → agreedAt held i j ≡ noHours) where
-  nothing : (q : Slot) (i j : ℕ) → heldIn held q i j ≡ 0
-  nothing byTariff i j = ap (λ (p : Agreed). hoursHeld p byTariff) (zh i j)
-  nothing oldFree i j = ap (λ (p : Agreed). hoursHeld p oldFree) (zh i j)
-  nothing newFree i j = ap (λ (p : Agreed). hoursHeld p newFree) (zh i j)
-
   at-start : Invariant t (line prices) (heldIn held)
-  at-start = start (λ j hj. omega (arith, zp j, fit .pilotStandby j)) (λ q i j hi hj. nothing q i j)
+  at-start = start (λ j hj. omega (arith, zp j, fit .pilotStandby j)) (λ q i j hi hj. nothing-held held zh q i j)
 
   pub live-start : length prices ≡ 16 → Full held → Live t prices held
   live-start l full = record { full = full; sixteen = l; low = λ j hj. omega (arith, zp j); inv = at-start }

@@ -208,7 +208,7 @@ left-after : (c : tie.At-loop Inv-loop μ-loop Inv-turns μ-turns) (prices : Lis
 left-after c prices held turned = let turn = c .before .before .before .before .before .before .before .before .before in
     let a = turn .before .before .before .args in
     let l = turn .before .turns in
-    left-less (ticket (a .growers) (a .pilots) (a .t3) (a .pilot-hours) (a .t5)) (l .price) (l .held) (l .free) prices held (l .k) (turn .before .before .before .pre .0 .growers)
+    left-less (ticket (a .growers) (a .pilots) (a .t3) (a .pilot-hours) (a .t5)) (l .price) (l .held) prices held (l .k) (turn .before .before .before .pre .0 .growers)
     (rw (sym (c .loop .inv .0)) turned)
 
 turns-holds : tie.Need-turns-holds Inv-loop μ-loop Inv-turns μ-turns
@@ -247,7 +247,7 @@ sub-free c = omega (arith, c .before .before .fewest .ensures .1)
 
 turns-less-2 : tie.Need-turns-less-2 Inv-loop μ-loop Inv-turns μ-turns
 turns-less-2 c = let turn = c .before .before .before .before .before .before .before .before .before .before .before in
-    left-less _ _ _ (turn .before .turns .free) _ _ _ (turn .before .before .before .pre .0 .growers) (turned-add c)
+    left-less _ _ _ _ _ _ (turn .before .before .before .pre .0 .growers) (turned-add c)
 
 turns-again-2 : tie.Need-turns-again-2 Inv-loop μ-loop Inv-turns μ-turns
 turns-again-2 c = let ask = c .before .before .before .before .before in
