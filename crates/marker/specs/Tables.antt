@@ -13,7 +13,8 @@ use Rattle.marker.specs.declared.Spare.{Spare}
 use Rattle.marker.specs.declared.Verdict.{Verdict}
 use Rattle.marker.specs.declared.Verdict.the-variants.{TariffOverCap, FreeOverCap, WrongPay}
 use Rattle.tables.specs.declared.Pair.{Pair}
-use Rattle.tables.specs.View.{byDeal, growersOf, pilotsOf}
+use Rattle.market.specs.Tables.{byDeal}
+use Rattle.tables.specs.View.{growersOf, pilotsOf}
 use Rattle.tables.specs.Pairs.{pairAt}
 use Rattle.marker.specs.Verdict.{pairTest, idleTest, blocksTest, cheapestSpare, byPair}
 

@@ -2,14 +2,15 @@
 -- Both lists begin with kind, n and m. A ticket goes on with n grower hours, m pilot hours and five numbers for each pair,
 -- a settlement with three numbers for each pair.
 -- Assumes nothing.
-use Prim.Native.Nat.{ℕ, _+_, _*_}
+use Prim.Native.Nat.{ℕ, _+_, _*_, min}
 use mathlib.Core.Bool.{cond}
 use mathlib.Core.List.{List}
 use lib.Dec.{ltb}
 use lib.ListN.{getD}
-use Rattle.market.specs.declared.Deal.{Deal}
-use Rattle.market.specs.declared.Deal.the-variants.{Tariff, Free}
+use Rattle.grid.specs.Grid.{Grid}
+use Rattle.grid.specs.Fill.{Filled, FilledRow}
 use Rattle.market.specs.Market.{Ticket, Settlement}
+use Rattle.market.specs.Tables.{byDeal}
 use Rattle.tables.specs.declared.Quantity.{Quantity}
 use Rattle.tables.specs.declared.Quantity.the-variants.{TariffCap, TariffGain, TariffPay, FreeCap, JointGain}
 use Rattle.tables.specs.declared.Quantity.the-variants.{TariffHours, FreeHours, Pay}
@@ -50,11 +51,6 @@ growerHoursOf list i = getD list (3 + i) 0
 abbrev pub pilotHoursOf : List ℕ → ℕ → ℕ
 pilotHoursOf list j = getD list (3 + growersOf list + j) 0
 
--- one thing for tariff deals, another for free deals
-abbrev pub byDeal : {A : Type 0} → A → A → Deal → A
-byDeal tariff free Tariff = tariff
-byDeal tariff free Free = free
-
 -- a free hour is worth nothing
 abbrev pub ticketOf : List ℕ → Ticket
 ticketOf list = record {
@@ -76,3 +72,23 @@ settlementOf list = record {
   hours = byDeal (quantityOf TariffHours list) (quantityOf FreeHours list);
   pay = quantityOf Pay list;
 }
+
+-- A square holds a quantity of a list: that of each pair, as far as the square reaches, and 0 elsewhere.
+abbrev pub Holds : Quantity → List ℕ → Grid → Type 0
+Holds quantity list square = Filled (quantityOf quantity list) (min 16 (growersOf list)) (min 16 (pilotsOf list)) square
+
+-- Rows and squares hold all that a ticket's list says.
+pub record HoldTicket (list growerHours pilotHours : List ℕ) (tariffCap tariffGain tariffPay freeCap jointGain : Grid) : Type 0 where
+  pub growerHoursIn : FilledRow (growerHoursOf list) (min 16 (growersOf list)) growerHours
+  pub pilotHoursIn : FilledRow (pilotHoursOf list) (min 16 (pilotsOf list)) pilotHours
+  pub tariffCapIn : Holds TariffCap list tariffCap
+  pub tariffGainIn : Holds TariffGain list tariffGain
+  pub tariffPayIn : Holds TariffPay list tariffPay
+  pub freeCapIn : Holds FreeCap list freeCap
+  pub jointGainIn : Holds JointGain list jointGain
+
+-- Squares hold all that a settlement's list says.
+pub record HoldSettlement (list : List ℕ) (tariffHours freeHours pay : Grid) : Type 0 where
+  pub tariffHoursIn : Holds TariffHours list tariffHours
+  pub freeHoursIn : Holds FreeHours list freeHours
+  pub payIn : Holds Pay list pay

@@ -1,0 +1,53 @@
+-- Rows and squares that hold what a list says mean what the list means.
+-- Assumes nothing.
+use Prim.Native.Nat.{ℕ, _≤_, _<_}
+use mathlib.Core.Path.{_≡_, refl, sym}
+use mathlib.Core.List.{List}
+use native.Mathlib.Omega.{arith}
+use Rattle.grid.specs.Grid.{Grid, at}
+use Rattle.market.specs.declared.Deal.{Deal}
+use Rattle.market.specs.declared.Deal.the-variants.{Tariff, Free}
+use Rattle.market.specs.Market.{Ticket}
+use Rattle.market.specs.Tables.{ticketIn, settlementIn}
+use Rattle.market.specs.Same.{SameTicket, SameSettlement}
+use Rattle.tables.specs.declared.Quantity.{Quantity}
+use Rattle.tables.specs.declared.Quantity.the-variants.{TariffCap, TariffGain, TariffPay, FreeCap, JointGain}
+use Rattle.tables.specs.declared.Quantity.the-variants.{TariffHours, FreeHours, Pay}
+use Rattle.tables.specs.View.{growersOf, pilotsOf, quantityOf, ticketOf, settlementOf, Holds, HoldTicket, HoldSettlement}
+
+-- n growers and m pilots of a list, for whom a square has room
+module _ (list : List ℕ) (n m : ℕ) (en : n ≡ growersOf list) (em : m ≡ pilotsOf list) (hn : n ≤ 16) (hm : m ≤ 16) where
+  -- the cell of a pair
+  pub held : (quantity : Quantity) {square : Grid} → Holds quantity list square → (i j : ℕ) → i < n → j < m →
+      quantityOf quantity list i j ≡ at square i j
+  held quantity h i j hi hj = sym (h .inner i j (omega arith) (omega arith))
+
+  pub ticket-same : {growerHours pilotHours : List ℕ} {tariffCap tariffGain tariffPay freeCap jointGain : Grid} →
+      HoldTicket list growerHours pilotHours tariffCap tariffGain tariffPay freeCap jointGain →
+      SameTicket (ticketIn n m growerHours pilotHours tariffCap tariffGain tariffPay freeCap jointGain) (ticketOf list)
+  ticket-same h = record {
+    growers = sym en;
+    pilots = sym em;
+    growerHours = λ i hi. sym (h .growerHoursIn .inner i (omega arith));
+    pilotHours = λ j hj. sym (h .pilotHoursIn .inner j (omega arith));
+    tariffCap = held TariffCap (h .tariffCapIn);
+    tariffGain = held TariffGain (h .tariffGainIn);
+    tariffPay = held TariffPay (h .tariffPayIn);
+    freeCap = held FreeCap (h .freeCapIn);
+    jointGain = held JointGain (h .jointGainIn);
+    growerStandby = λ i hi. refl;
+    pilotStandby = λ j hj. refl;
+  }
+
+  -- of any ticket with so many growers and pilots
+  pub settlement-same : {tariffHours freeHours pay : Grid} → HoldSettlement list tariffHours freeHours pay → (t : Ticket) →
+      t .growers ≡ n → t .pilots ≡ m → SameSettlement t (settlementIn tariffHours freeHours pay) (settlementOf list)
+  settlement-same {tariffHours} {freeHours} {pay} h t et eu = record {
+    hours = hours;
+    pay = λ i j hi hj. held Pay (h .payIn) i j (omega arith) (omega arith);
+  }
+    where
+      hours : (d : Deal) (i j : ℕ) → i < t .growers → j < t .pilots →
+          settlementOf list .hours d i j ≡ settlementIn tariffHours freeHours pay .hours d i j
+      hours Tariff i j hi hj = held TariffHours (h .tariffHoursIn) i j (omega arith) (omega arith)
+      hours Free i j hi hj = held FreeHours (h .freeHoursIn) i j (omega arith) (omega arith)
