@@ -51,3 +51,7 @@ module _ (val : ℕ → ℕ → ℕ) (m : ℕ) where
     outer = λ a b o.
         ⊎-elim (λ x. p .rest a b (λ y. absurd (omega arith)) (λ y. omega arith)) (λ x. p .rest a b (λ y. x) (λ y. omega arith)) o;
   }
+
+-- a square whose extent is given by an equation
+pub filled-as : (val : ℕ → ℕ → ℕ) (n m n′ m′ : ℕ) (q : Grid) → n ≡ n′ → m ≡ m′ → Filled val n m q → Filled val n′ m′ q
+filled-as val n m n′ m′ q e f p = rw (e, f) at p

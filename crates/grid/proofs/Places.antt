@@ -20,8 +20,13 @@ quot m i j h = mul-add-div-right {m = m} (omega arith) i j ∙ omega (arith, div
 rest : (m i j : ℕ) → j < m → (i * m + j) % m ≡ j
 rest m i j h = mul-add-mod-self-right i m j ∙ mod-eq-of-lt h
 
+-- the grower, the pilot and the deal of a place
+pub deal-place : (m i j d : ℕ) → j < m → d < 2 → let p = 2 * (i * m + j) + d in (p / 2 / m ≡ i) × (p / 2 % m ≡ j) × (p % 2 ≡ d)
+deal-place m i j d hj hd =
+    (rw (half (i * m + j) d hd) (quot m i j hj), rw (half (i * m + j) d hd) (rest m i j hj), odd (i * m + j) d hd)
+
 pub at-place : (g : ℕ → ℕ → ℕ → Bool) (m i j d : ℕ) → j < m → d < 2 → byPlace g m (2 * (i * m + j) + d) ≡ g i j d
-at-place g m i j d hj hd = rw (half (i * m + j) d hd, odd (i * m + j) d hd, quot m i j hj, rest m i j hj)
+at-place g m i j d hj hd = let e = deal-place m i j d hj hd in rw (e .0, e .1, e .2)
 
 -- products of numbers in range
 pub prod-small : (a b : ℕ) → a ≤ 16 → b ≤ 16 → a * b ≤ 256

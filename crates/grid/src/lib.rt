@@ -4,6 +4,7 @@ ghost use Prim.Native.Nat.{ℕ, _*_, _<_, min};
 ghost use lib.ListN.{getD, take};
 ghost use Rattle.grid.specs.Grid.{at, Square, Row};
 ghost use Rattle.grid.specs.Lines.{rowSum, colSum};
+ghost use Rattle.grid.specs.Fill.{Filled};
 
 // How many growers, and how many pilots, a square has room for.
 pub const SIDE: usize = 16;
@@ -101,4 +102,19 @@ pub fn zero_row() -> [u16; 16]
     ensures { λ r. ⌜ Row r × ((j : ℕ) → getD r j 0 ≡ 0) ⌝ }
 {
     [0u16; 16]
+}
+
+// So many rows and columns of a square on their side: its cell (i, j) becomes the cell (j, i).
+pub fn turned(sq: [[u16; 16]; 16], rows: usize, columns: usize) -> [[u16; 16]; 16]
+    ensures { λ r. ⌜ Filled (λ j i. at sq i j) (min 16 columns) (min 16 rows) r ⌝ }
+{
+    let height = within(columns);
+    let width = within(rows);
+    let mut q = zeros();
+    for j in 0..height {
+        for i in 0..width {
+            q[j][i] = sq[i][j];
+        }
+    }
+    q
 }

@@ -1,11 +1,16 @@
--- The deal that a number stands for: 0 is the tariff deal, any other the free deal.
+-- Deals by their number: 0 is the tariff deal, 1 the free deal.
 -- Assumes nothing.
-use Prim.Native.Nat.{ℕ, zero, suc}
+use Prim.Native.Nat.{ℕ, _<_}
 use mathlib.Core.Path.{_≡_, refl}
-use Rattle.market.specs.declared.Deal.the-variants.{Free}
-use Rattle.marker.specs.Verdict.{dealAt}
+use lib.Dec.{lit<}
+use Rattle.market.specs.declared.Deal.{Deal}
+use Rattle.market.specs.declared.Deal.the-variants.{Tariff, Free}
+use Rattle.marker.specs.Verdict.{dealAt, dealNumber}
 
--- the deal of a number that is not 0
-pub deal-free : (d : ℕ) → (d ≡ 0 → ⊥) → dealAt d ≡ Free
-deal-free zero ne = absurd (ne refl)
-deal-free (suc d) ne = refl
+pub deal-of-number : (d : Deal) → dealAt (dealNumber d) ≡ d
+deal-of-number Tariff = refl
+deal-of-number Free = refl
+
+pub number-small : (d : Deal) → dealNumber d < 2
+number-small Tariff = lit< tt
+number-small Free = lit< tt

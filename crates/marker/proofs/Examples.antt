@@ -11,14 +11,14 @@ use Rattle.marker.specs.Examples.{Examples}
 pub examples : Examples
 unfolding form walk readFrom first sum cheapestOf
 examples = record {
-  a1 = (refl, refl, refl, refl, refl);
-  a2 = (refl, refl, refl, refl, refl);
-  a3 = (refl, refl, refl, refl, refl);
-  a4 = (refl, refl, refl, refl, refl);
-  b1 = (refl, refl, refl, refl, refl);
-  b2 = (refl, refl, refl, refl, refl);
-  b3 = (refl, refl, refl, refl, refl);
-  c1 = (refl, refl, refl, refl, refl);
-  c2 = (refl, refl, refl, refl, refl);
-  d1 = (refl, refl, refl, refl, refl);
+  a1 = refl;
+  a2 = refl;
+  a3 = refl;
+  a4 = refl;
+  b1 = refl;
+  b2 = refl;
+  b3 = refl;
+  c1 = refl;
+  c2 = refl;
+  d1 = refl;
 }

@@ -7,4 +7,5 @@ pub mod CheapestSpares
 pub mod Soundness
 pub mod Views
 pub mod Verdicts
+pub mod SameVerdicts
 pub mod Marking

@@ -16,7 +16,8 @@ use Rattle.reader.proofs.Facts.{unpacked-shape, settlement-shape, settlement-fe
 use Rattle.marker.specs.declared.Verdict.{Verdict}
 use Rattle.marker.specs.declared.Verdict.the-variants.{Refused, Sound}
 use Rattle.tables.specs.View.{growersOf, pilotsOf, ticketOf, settlementOf}
-use Rattle.marker.specs.Verdict.{judged, verdictNumber}
+use Rattle.marker.specs.Verdict.{judged}
+use Rattle.marker.specs.Values.{verdictNumber}
 use Rattle.marker.specs.Marked.{settlementMarked, ticketMarked, marked, SoundFiles}
 use Rattle.marker.proofs.Soundness.{NoStandby, sound-exactly, sound-number}
 
@@ -64,6 +65,10 @@ pub answer-is : (s zeros list : List ℕ) (n m count : ℕ) → Reply.Done count
     list ≡ take count (kept zeros (settlementRead n m s)) → settlementRead n m s ≡ Numbers list
 answer-is s zeros list n m count e cut =
     let d = reply-done (settlementRead n m s) zeros count e in d .1 ∙ ap Numbers (sym (cut ∙ d .2))
+
+pub answer-sized : (xs s list : List ℕ) (n m : ℕ) → n ≡ growersOf xs → m ≡ pilotsOf xs → settlementRead n m s ≡ Numbers list →
+    (growersOf list ≡ growersOf xs) × (pilotsOf list ≡ pilotsOf xs)
+answer-sized xs s list n m en em e = let a = settlement-shape n m s list e in (a .growers ∙ en, a .pilots ∙ em)
 
 pub judged-answer : (xs s list : List ℕ) (n m : ℕ) (v : Verdict) → n ≡ growersOf xs → m ≡ pilotsOf xs →
     settlementRead n m s ≡ Numbers list → v ≡ judged (ticketOf xs) (settlementOf list) →

@@ -1,27 +1,28 @@
--- What the rows of a party say of its spares, and of a deal that is at fault.
+-- What the rows of a party say of its hours, its earnings and its spares.
 -- Assumes nothing.
-use Prim.Native.Nat.{ℕ, zero, suc, _-_, _<_}
-use mathlib.Core.Path.{_≡_, refl, ap, _∙_}
+use Prim.Native.Nat.{ℕ, _-_, _<_, _≤_, min}
+use mathlib.Core.Path.{_≡_, refl, ap, ap₂, _∙_}
 use mathlib.Core.Logic.{⊎-elim}
-use mathlib.Core.Bool.{Bool, true, false, cond, _||_}
-use mathlib.Core.List.{List}
+use mathlib.Core.Bool.{cond}
+use mathlib.Core.List.{List, []}
 use native.Mathlib.Omega.{arith}
 use lib.Dec.{eqb, ltb}
 use lib.ListN.{getD, set, length, List·getD-eq-default}
 use lib.Seq.{getD-set-same, getD-set-other, set-out}
 use borrow.Author.Tests.{eq-eqb, ne-eqb}
+use Rattle.grid.specs.Grid.{Grid, at}
+use Rattle.grid.specs.Fill.{Filled}
 use Rattle.grid.proofs.Cases.{eq-or-ne, lt-or-le}
 use Rattle.grid.proofs.Sums.{sum-same}
 use Rattle.market.specs.declared.Deal.{Deal}
 use Rattle.market.specs.declared.Deal.the-variants.{Tariff, Free}
-use Rattle.market.specs.Market.{sumDeals}
-use Rattle.tables.specs.declared.Pair.{Pair}
+use Rattle.market.specs.Market.{sumDeals, earnedByGrower, earnedByPilot}
+use Rattle.market.specs.Tables.{ticketIn, settlementIn}
 use Rattle.marker.specs.declared.Party.{Party}
 use Rattle.marker.specs.declared.Spare.{Spare}
 use Rattle.marker.specs.declared.Spare.the-variants.{Nothing}
-use Rattle.marker.specs.Verdict.{countIn, cheapestOf, besides, dealAt}
-use Rattle.grid.specs.Fill.{FilledRow}
-use Rattle.marker.specs.Tables.{PartyOf, lines, usedIn, besideOwn, spareIn, idleIn, blocksIn, wrongIn}
+use Rattle.marker.specs.Verdict.{countIn, cheapestOf, besides}
+use Rattle.marker.specs.Tables.{lines, usedIn, partyOf, partyAt, IsParty, IsGrower, IsPilot, spareIn}
 use Rattle.marker.proofs.Spares.{cheapest-same}
 
 -- a row whose number at y is made 0; beyond its end it has zeros anyway
@@ -31,62 +32,73 @@ zero-at r y l = ⊎-elim (λ e. rw (eq-eqb l y e, e) here) (λ n. rw (ne-eqb l y
     here : getD (set r y 0) y 0 ≡ 0
     here = ⊎-elim (λ h. getD-set-same r y 0 0 h) (λ h. rw (set-out r y 0 h) (List·getD-eq-default r 0 h)) (lt-or-le y (length r))
 
--- rows without the deal's own hours
-beside-lines : (tariff free : List ℕ) (d y : ℕ) → d < 2 → (e : Deal) (l : ℕ) →
-    lines (besideOwn tariff (eqb d 0) y) (besideOwn free (eqb d 1) y) e l ≡ besides (dealAt d) y (lines tariff free) e l
-beside-lines tariff free zero y h Tariff l = zero-at tariff y l
-beside-lines tariff free zero y h Free l = refl
-beside-lines tariff free (suc zero) y h Tariff l = refl
-beside-lines tariff free (suc zero) y h Free l = zero-at free y l
-beside-lines tariff free (suc (suc d)) y h e l = absurd (omega arith)
+-- the cheapest of a free hour and of rows without the deal's own hours
+module _ (p : Party) (k y : ℕ) (s r : Spare) (es : s ≡ countIn (p .unused) 0 Nothing) (rest : List ℕ) where
+  beside-tariff : (e : Deal) (l : ℕ) → lines (set (p .tariff) y 0) (p .free) e l ≡ besides Tariff y (lines (p .tariff) (p .free)) e l
+  beside-tariff Tariff l = zero-at (p .tariff) y l
+  beside-tariff Free l = refl
 
--- the cheapest of a free hour and of such rows
-pub spare-there : (p : Party) (k d y : ℕ) → d < 2 → (s r : Spare) (tariff free : List ℕ) → s ≡ countIn (p .unused) 0 Nothing →
-    tariff ≡ besideOwn (p .tariff) (eqb d 0) y → free ≡ besideOwn (p .free) (eqb d 1) y →
-    r ≡ cheapestOf s (lines tariff free) (lines (p .earned) (p .share)) k → r ≡ spareIn p k (dealAt d) y
-spare-there p k d y h s r tariff free es et ef er =
-    er ∙ rw (es, et, ef) (cheapest-same _ _ _ _ _ k (λ e l _. beside-lines (p .tariff) (p .free) d y h e l) (λ e l _. refl))
+  beside-free : (e : Deal) (l : ℕ) → lines (p .tariff) (set (p .free) y 0) e l ≡ besides Free y (lines (p .tariff) (p .free)) e l
+  beside-free Tariff l = refl
+  beside-free Free l = zero-at (p .free) y l
 
--- the party of four rows
-module _ (k : ℕ) (tariff free : List ℕ) (hours : Deal → ℕ → ℕ) (ft : FilledRow (hours Tariff) k tariff)
-    (ff : FilledRow (hours Free) k free) where
-  pub used-is : (v : ℕ) → v ≡ usedIn tariff free k → v ≡ sumDeals hours k
-  used-is v e = e ∙ sum-same _ _ k (λ l h. omega (arith, ft .inner l h, ff .inner l h))
+  pub spare-tariff : rest ≡ set (p .tariff) y 0 → r ≡ cheapestOf s (lines rest (p .free)) (lines (p .earned) (p .share)) k →
+      r ≡ spareIn p k Tariff y
+  spare-tariff e er = er ∙ rw (es, e) (cheapest-same _ _ _ _ _ k (λ e l _. beside-tariff e l) (λ e l _. refl))
 
-  pub party-made : (earned share : List ℕ) (worth : Deal → ℕ → ℕ) → FilledRow (worth Tariff) k earned → FilledRow (worth Free) k share →
-      (own h v u : ℕ) → h ≡ own → v ≡ usedIn tariff free k → u ≡ h - v →
-      PartyOf (record { unused = u; tariff = tariff; free = free; earned = earned; share = share }) k (own - sumDeals hours k) hours worth
-  party-made earned share worth fe fs own h v u eh ev eu = record {
-    unused = omega (arith, eh, eu, used-is v ev);
-    hours = λ e l hl. hours-with e l hl;
-    earned = λ e l hl. earned-with e l hl;
-  }
-    where
-      hours-with : (e : Deal) (l : ℕ) → l < k → lines tariff free e l ≡ hours e l
-      hours-with Tariff l hl = ft .inner l hl
-      hours-with Free l hl = ff .inner l hl
+  pub spare-free : rest ≡ set (p .free) y 0 → r ≡ cheapestOf s (lines (p .tariff) rest) (lines (p .earned) (p .share)) k →
+      r ≡ spareIn p k Free y
+  spare-free e er = er ∙ rw (es, e) (cheapest-same _ _ _ _ _ k (λ e l _. beside-free e l) (λ e l _. refl))
 
-      earned-with : (e : Deal) (l : ℕ) → l < k → lines earned share e l ≡ worth e l
-      earned-with Tariff l hl = fe .inner l hl
-      earned-with Free l hl = fs .inner l hl
+-- a party of rows that hold such hours and earnings
+party-is : (p : Party) (k own : ℕ) (had worth : Deal → ℕ → ℕ) (tariff free earned share : List ℕ) →
+    p ≡ partyOf own tariff free earned share k → ((e : Deal) (l : ℕ) → l < k → lines tariff free e l ≡ had e l) →
+    ((e : Deal) (l : ℕ) → l < k → lines earned share e l ≡ worth e l) → IsParty p k own had worth
+party-is p k own had worth tariff free earned share e h w = rw e (record {
+  over = ap (ltb own) used;
+  unused = ap (λ (u : ℕ). own - u) used;
+  hours = h;
+  earned = w;
+})
+  where
+    used : usedIn tariff free k ≡ sumDeals had k
+    used = sum-same _ _ k (λ l hl. omega (arith, h Tariff l hl, h Free l hl))
 
--- a deal at fault, by what its tests gave
-first-holds : (a b r : Bool) → r ≡ a → r ≡ true → true ≡ (a || b)
-first-holds a b r e h = rw (← e, h)
+-- a grower of the rows of squares
+module _ (n m : ℕ) (own : List ℕ) (tariffHours freeHours tariffGain jointGain pay shares : Grid)
+    (fs : Filled (λ i j. at jointGain i j - at pay i j) n m shares) (i : ℕ) (hi : i < n) where
+  grower-had : (e : Deal) (l : ℕ) → lines (getD tariffHours i []) (getD freeHours i []) e l ≡
+      settlementIn tariffHours freeHours pay .hours e i l
+  grower-had Tariff l = refl
+  grower-had Free l = refl
 
-second-decides : (a b r s : Bool) → r ≡ a → r ≡ false → s ≡ b → s ≡ (a || b)
-second-decides a b r s e h f = rw (← e, h) f
+  grower-worth : (e : Deal) (l : ℕ) → l < m → lines (getD tariffGain i []) (getD shares i []) e l ≡
+      earnedByGrower (ticketIn n m own [] [] tariffGain [] [] jointGain) (settlementIn tariffHours freeHours pay) e i l
+  grower-worth Tariff l hl = refl
+  grower-worth Free l hl = fs .inner i l hi hl
 
-module _ (g p : Party) (q : Pair) (n m i j : ℕ) (d : Deal) (b : Bool) (eb : b ≡ idleIn q (g .unused) (p .unused) d) where
-  pub wrong-idle : b ≡ true → true ≡ wrongIn g p q n m i j d
-  wrong-idle h = first-holds (idleIn q (g .unused) (p .unused) d) (blocksIn q (spareIn g m d j) (spareIn p n d i) d) b eb h
+  pub grower-is : (p : Party) → p ≡ partyAt own tariffHours freeHours tariffGain shares m i →
+      IsGrower (ticketIn n m own [] [] tariffGain [] [] jointGain) (settlementIn tariffHours freeHours pay) i p
+  grower-is p e = party-is p m _ _ _ _ _ _ _ e (λ d l _. grower-had d l) grower-worth
 
-  pub wrong-blocks : b ≡ false → (ofGrower ofPilot : Spare) (r : Bool) → ofGrower ≡ spareIn g m d j → ofPilot ≡ spareIn p n d i →
-      r ≡ blocksIn q ofGrower ofPilot d → r ≡ wrongIn g p q n m i j d
-  wrong-blocks h ofGrower ofPilot r eg ep er =
-      second-decides (idleIn q (g .unused) (p .unused) d) (blocksIn q (spareIn g m d j) (spareIn p n d i) d) b r eb h
-      (er ∙ ap (λ (s : Spare). blocksIn q s ofPilot d) eg ∙ ap (λ (s : Spare). blocksIn q (spareIn g m d j) s d) ep)
+-- a square on its side
+abbrev Turned : ℕ → ℕ → Grid → Grid → Type 0
+Turned n m q r = Filled (λ j i. at q i j) (min 16 m) (min 16 n) r
 
--- the test of being over, on numbers that are the party's
-pub over-there : (own u h a b : ℕ) → h ≡ own → a ≡ h → b ≡ u → ltb own u ≡ ltb a b
-over-there own u h a b eh ea eb = rw (ea, eh, eb)
+-- a pilot of the rows of squares on their side
+module _ (n m : ℕ) (hn : n ≤ 16) (hm : m ≤ 16) (own : List ℕ) (tariffHours freeHours tariffPay pay : Grid) (byTariff byFree earned share : Grid)
+    (ft : Turned n m tariffHours byTariff) (ff : Turned n m freeHours byFree) (fe : Turned n m tariffPay earned) (fs : Turned n m pay share)
+    (j : ℕ) (hj : j < m) where
+  pilot-had : (e : Deal) (k : ℕ) → k < n → lines (getD byTariff j []) (getD byFree j []) e k ≡
+      settlementIn tariffHours freeHours pay .hours e k j
+  pilot-had Tariff k hk = ft .inner j k (omega arith) (omega arith)
+  pilot-had Free k hk = ff .inner j k (omega arith) (omega arith)
+
+  pilot-worth : (e : Deal) (k : ℕ) → k < n → lines (getD earned j []) (getD share j []) e k ≡
+      earnedByPilot (ticketIn n m [] own [] [] tariffPay [] []) (settlementIn tariffHours freeHours pay) e k j
+  pilot-worth Tariff k hk = fe .inner j k (omega arith) (omega arith)
+  pilot-worth Free k hk = fs .inner j k (omega arith) (omega arith)
+
+  pub pilot-is : (p : Party) → p ≡ partyAt own byTariff byFree earned share n j →
+      IsPilot (ticketIn n m [] own [] [] tariffPay [] []) (settlementIn tariffHours freeHours pay) j p
+  pilot-is p e = party-is p n _ _ _ _ _ _ _ e pilot-had pilot-worth

@@ -20,7 +20,8 @@ use Rattle.marker.specs.declared.Verdict.the-variants.{Idle, Blocks}
 use Rattle.marker.specs.Verdict.{below, bothBelow, payTest, wrongPair, wrongPay, freeOfGrower, freeOfPilot, growerOver, pilotOver}
 use Rattle.marker.specs.Verdict.{idle, blocks, wrongDeal, growerSpare, pilotSpare}
 use Rattle.marker.specs.Verdict.{byPair, dealAt, walk, pairVerdict, dealVerdictAt, pairs, pairFaultAt, dealFaultAt, dealsJudged}
-use Rattle.marker.specs.Verdict.{hoursJudged, judged, verdictNumber, overCap}
+use Rattle.marker.specs.Verdict.{hoursJudged, judged, overCap}
+use Rattle.marker.specs.Values.{verdictNumber}
 use Rattle.marker.proofs.Walks.{walk-passes, walk-passed, none-pairs, none-deals}
 use Rattle.marker.proofs.CheapestSpares.{cheapest-of-grower, cheapest-of-pilot, below-true, below-made, both-below-true}
 use Rattle.marker.proofs.CheapestSpares.{both-below-made}

@@ -1,7 +1,7 @@
 -- The laws of the cheapest spare.
 -- Assumes nothing.
 use Prim.Native.Nat.{ℕ, zero, suc, _+_, _<_}
-use mathlib.Core.Path.{_≡_, refl, ap, sym, subst}
+use mathlib.Core.Path.{_≡_, refl, ap}
 use mathlib.Core.Bool.{cond, _&&_}
 use lib.Dec.{eqb}
 use native.Mathlib.Numerals.{add-one}
@@ -9,7 +9,7 @@ use native.Mathlib.Omega.{arith}
 use Rattle.market.specs.declared.Deal.{Deal}
 use Rattle.market.specs.declared.Deal.the-variants.{Tariff, Free}
 use Rattle.marker.specs.declared.Spare.{Spare}
-use Rattle.marker.specs.Verdict.{countIn, cheapestOf, sameDeal, cheapestSpare, dealTest}
+use Rattle.marker.specs.Verdict.{countIn, cheapestOf, sameDeal, cheapestSpare}
 
 -- what a loop starts with, and what its turn does
 pub cheapest-none : (s : Spare) (hours worth : Deal → ℕ → ℕ) → cheapestOf s hours worth 0 ≡ s
@@ -49,14 +49,3 @@ pub spare-same : (free free′ standby standby′ k k′ : ℕ) (hours worth hou
     cheapestSpare free′ standby′ hours′ worth′ k′ d y ≡ cheapestSpare free standby hours worth k d y
 spare-same free free′ standby standby′ k k′ hours worth hours′ worth′ d y ef es ek h w =
     rw (ef, es, ek) (cheapest-same _ _ _ _ _ k (λ e l x. ap (λ (u : ℕ). cond (sameDeal e d && eqb l y) 0 u) (h e l x)) w)
-
--- the test of a deal on the same numbers
-pub test-same : (d : Deal) (hours hours′ cap cap′ ofGrower ofGrower′ ofPilot ofPilot′ gain gain′ pay pay′ joint joint′ : ℕ)
-    (g g′ p p′ : Spare) → hours′ ≡ hours → cap′ ≡ cap → ofGrower′ ≡ ofGrower → ofPilot′ ≡ ofPilot → g′ ≡ g → p′ ≡ p → gain′ ≡ gain →
-    pay′ ≡ pay → joint′ ≡ joint →
-    dealTest d hours′ cap′ ofGrower′ ofPilot′ g′ p′ gain′ pay′ joint′ ≡ dealTest d hours cap ofGrower ofPilot g p gain pay joint
-test-same d hours hours′ cap cap′ ofGrower ofGrower′ ofPilot ofPilot′ gain gain′ pay pay′ joint joint′ g g′ p p′ eh ec eg ep es er ea eb
-    ej =
-    subst (λ (u : ℕ). dealTest d u cap′ ofGrower′ ofPilot′ g′ p′ gain′ pay′ joint′ ≡ dealTest d hours cap ofGrower ofPilot g p gain pay
-    joint) (sym eh)
-    (rw (ec, eg, ep, es, er, ea, eb, ej))

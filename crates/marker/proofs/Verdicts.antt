@@ -1,75 +1,124 @@
--- The verdict of each walk, from the place that its search gave.
+-- The verdict of each walk, from what its search found.
 -- Assumes nothing.
-use Prim.Native.Nat.{ℕ, _*_, _/_, _%_, _<_, _≤_}
-use mathlib.Core.Path.{_≡_, ap, _∙_}
-use mathlib.Core.List.{List}
-use Rattle.grid.specs.First.{first}
+use Prim.Native.Nat.{ℕ, _+_, _*_, _<_, _≤_}
+use mathlib.Core.Path.{_≡_, refl, sym, _∙_}
+use mathlib.Core.Bool.{Bool, true, false}
+use native.Mathlib.Omega.{arith}
+use lib.Dec.{ltb}
+use lib.ListN.{getD}
+use borrow.Author.Tests.{lt-ltb, le-ltb}
+use Rattle.grid.specs.First.{none, first}
+use Rattle.grid.proofs.Cases.{never}
+use Rattle.grid.proofs.FirstPlaces.{none-more, first-is}
+use Rattle.grid.proofs.Places.{cell-place, deal-place, row-within}
+use Rattle.market.specs.declared.Deal.{Deal}
 use Rattle.market.specs.Market.{Ticket, Settlement}
-use Rattle.marker.specs.declared.Verdict.the-variants.{Sound, GrowerOverHours, PilotOverHours}
-use Rattle.tables.specs.View.{growersOf, pilotsOf, ticketOf}
-use Rattle.marker.specs.Tables.{growerOverIn, pilotOverIn}
-use Rattle.marker.specs.Verdict.{byPair, wrongPair, pairs, growerOver, pilotOver, pairVerdict, pairFaultAt, dealFaultAt, dealVerdictAt}
-use Rattle.marker.specs.Verdict.{dealsJudged, hoursJudged, judged}
+use Rattle.marker.specs.declared.Party.{Party}
+use Rattle.marker.specs.declared.Found.{Found}
+use Rattle.marker.specs.declared.Found.the-variants.{Nothing, Fault}
+use Rattle.marker.specs.declared.Verdict.{Verdict}
+use Rattle.marker.specs.declared.Verdict.the-variants.{Sound, GrowerOverHours, PilotOverHours, Idle, Blocks}
+use Rattle.marker.specs.Verdict.{byPair, walk, pairs, wrongPair, pairVerdict, pairFaultAt, growerOver, pilotOver, wrongDeal}
+use Rattle.marker.specs.Verdict.{idleTest, blocksTest, dealNumber, dealVerdict, dealFaultAt, dealVerdictAt, dealsJudged, hoursJudged}
+use Rattle.marker.specs.Tables.{foundIf, firstFound, lines, spareIn, idleIn, blocksIn, dealFound}
+use Rattle.marker.proofs.DealNumbers.{deal-of-number, number-small}
 use Rattle.marker.proofs.Walks.{walk-found, walk-on}
 
+-- what is found of a test
+pub found-holds : (b : Bool) (v w : Verdict) (r : Found) → r ≡ foundIf b v → r ≡ Fault w → (b ≡ true) × (w ≡ v)
+found-holds true v w r e f = (refl, cc)
+found-holds false v w r e f = never cc
+
+pub found-fails : (b : Bool) (v : Verdict) (r : Found) → r ≡ foundIf b v → r ≡ Nothing → b ≡ false
+found-fails true v r e f = never cc
+found-fails false v r e f = refl
+
+-- what is found of a deal by the tests of its parties, on its hours and its cap
+module _ (d : Deal) (g p : Party) (n m i j cap joint hours bound : ℕ) (eh : hours ≡ lines (g .tariff) (g .free) d j) (ec : bound ≡ cap)
+    (a : Bool) (ea : a ≡ idleTest hours bound (g .unused) (p .unused)) where
+  is-idle : (v : Bool) → a ≡ v → idleIn d g p j cap ≡ v
+  is-idle v e = (rw (eh, ec) at (sym ea)) ∙ e
+
+  pub idle-found : a ≡ true → (count : ℕ) → count ≡ 2 * (i * m + j) + dealNumber d + 1 → Fault (Idle i j d count) ≡ dealFound d g p n m i j cap joint
+  idle-found e count f = rw (is-idle true e, f)
+
+  module _ (no : a ≡ false) (b : Bool) (eb : b ≡ blocksTest d hours bound (spareIn g m d j) (spareIn p n d i) (getD (g .earned) j 0)
+      (getD (p .earned) i 0) joint) where
+    does-block : (v : Bool) → b ≡ v → blocksIn d g p n m i j cap joint ≡ v
+    does-block v e = (rw (eh, ec) at (sym eb)) ∙ e
+
+    pub blocks-found : b ≡ true → (count : ℕ) → count ≡ 2 * (i * m + j) + dealNumber d + 1 →
+        Fault (Blocks i j d count) ≡ dealFound d g p n m i j cap joint
+    blocks-found e count f = rw (is-idle false no, does-block true e, f)
+
+    pub nothing-found : b ≡ false → Nothing ≡ dealFound d g p n m i j cap joint
+    nothing-found e = rw (is-idle false no, does-block false e)
+
+module _ (test : ℕ → Bool) (k : ℕ) (verdict : ℕ → Verdict) where
+  -- a walk that stops at place p, and one that goes on to its end
+  pub found-first : (p : ℕ) → none test p → p < k → test p ≡ true → (v : Verdict) → v ≡ verdict p → Fault v ≡ firstFound test k verdict
+  found-first p before h here v e =
+      let f : first test k ≡ p = first-is test k p (omega arith) before (λ _. here) in rw (f, lt-ltb p k h, e)
+
+  pub found-none : none test k → Nothing ≡ firstFound test k verdict
+  found-none all =
+      let f : first test k ≡ k = first-is test k k (omega arith) all (λ h. absurd (omega arith)) in
+      rw (f, le-ltb k k (omega arith))
+
+  -- the verdict of a walk by what was found
+  pub walk-fault : (after v : Verdict) (r : Found) → r ≡ firstFound test k verdict → r ≡ Fault v → v ≡ walk test k verdict after
+  walk-fault after v r e f =
+      let h = found-holds (ltb (first test k) k) (verdict (first test k)) v r e f in rw (h .0) (h .1)
+
+  pub walk-none : (after : Verdict) (r : Found) → r ≡ firstFound test k verdict → r ≡ Nothing → after ≡ walk test k verdict after
+  walk-none after r e f = rw (found-fails (ltb (first test k) k) (verdict (first test k)) r e f)
+
 module _ (t : Ticket) (x : Settlement) where
-  pub pair-fault : (p : ℕ) → p ≡ first (pairFaultAt t x) (pairs t) → p < pairs t →
-      pairVerdict t x (p / t .pilots) (p % t .pilots) ≡ judged t x
-  pair-fault p e h = walk-found (pairFaultAt t x) (pairs t) (byPair (pairVerdict t x) (t .pilots)) (hoursJudged t x) p e h
+  -- what is found of a pair, at its place
+  pub pair-found : (i j : ℕ) → j < t .pilots → (r : Found) → r ≡ foundIf (wrongPair t x i j) (pairVerdict t x i j) →
+      r ≡ foundIf (pairFaultAt t x (i * t .pilots + j)) (byPair (pairVerdict t x) (t .pilots) (i * t .pilots + j))
+  pair-found i j hj r f = let e = cell-place (t .pilots) i j hj in rw (e .0, e .1) f
 
-  pub pairs-pass : (p : ℕ) → p ≡ first (pairFaultAt t x) (pairs t) → pairs t ≤ p → hoursJudged t x ≡ judged t x
-  pairs-pass p e h = walk-on (pairFaultAt t x) (pairs t) (byPair (pairVerdict t x) (t .pilots)) (hoursJudged t x) p e h
-
-  pub grower-fault : (i : ℕ) → i ≡ first (growerOver t x) (t .growers) → i < t .growers → GrowerOverHours i ≡ hoursJudged t x
-  grower-fault i e h = walk-found (growerOver t x) (t .growers) GrowerOverHours _ i e h
+  -- growers, then pilots
+  pub grower-judged : (i : ℕ) → i ≡ first (growerOver t x) (t .growers) → i < t .growers → GrowerOverHours i ≡ hoursJudged t x
+  grower-judged i e h = walk-found (growerOver t x) (t .growers) GrowerOverHours _ i e h
 
   module _ (i : ℕ) (ei : i ≡ first (growerOver t x) (t .growers)) (hi : t .growers ≤ i) (j : ℕ)
       (ej : j ≡ first (pilotOver t x) (t .pilots)) where
-    pub pilot-fault : j < t .pilots → PilotOverHours j ≡ hoursJudged t x
-    pilot-fault h =
+    pub pilot-judged : j < t .pilots → PilotOverHours j ≡ hoursJudged t x
+    pilot-judged h =
         walk-found (pilotOver t x) (t .pilots) PilotOverHours (dealsJudged t x) j ej h
         ∙ walk-on (growerOver t x) (t .growers) GrowerOverHours _ i ei hi
 
-    pub hours-pass : t .pilots ≤ j → dealsJudged t x ≡ hoursJudged t x
-    hours-pass h =
+    pub hours-judged : t .pilots ≤ j → dealsJudged t x ≡ hoursJudged t x
+    hours-judged h =
         walk-on (pilotOver t x) (t .pilots) PilotOverHours (dealsJudged t x) j ej h
         ∙ walk-on (growerOver t x) (t .growers) GrowerOverHours _ i ei hi
 
-  pub deal-fault : (p : ℕ) → p ≡ first (dealFaultAt t x) (2 * pairs t) → p < 2 * pairs t → dealVerdictAt t x p ≡ dealsJudged t x
-  deal-fault p e h = walk-found (dealFaultAt t x) (2 * pairs t) (dealVerdictAt t x) (Sound (2 * pairs t)) p e h
+  -- deals
+  pub deals-judged : none (dealFaultAt t x) (2 * pairs t) → (v : Verdict) → v ≡ Sound (2 * pairs t) → v ≡ dealsJudged t x
+  deals-judged all v e =
+      e ∙ walk-on (dealFaultAt t x) (2 * pairs t) (dealVerdictAt t x) (Sound (2 * pairs t)) (2 * pairs t)
+      (sym (first-is _ _ _ (omega arith) all (λ h. absurd (omega arith)))) (omega arith)
 
-  pub deals-pass : (p : ℕ) → p ≡ first (dealFaultAt t x) (2 * pairs t) → 2 * pairs t ≤ p → Sound (2 * pairs t) ≡ dealsJudged t x
-  deals-pass p e h = walk-on (dealFaultAt t x) (2 * pairs t) (dealVerdictAt t x) (Sound (2 * pairs t)) p e h
+  module _ (i j : ℕ) (hi : i < t .growers) (hj : j < t .pilots) (d : Deal) where
+    abbrev place : ℕ
+    place = 2 * (i * t .pilots + j) + dealNumber d
 
--- the same on a ticket of n growers and m pilots
-module _ (list : List ℕ) (x : Settlement) (n m : ℕ) (en : n ≡ growersOf list) (em : m ≡ pilotsOf list) where
-  pairs-are : n * m ≡ pairs (ticketOf list)
-  pairs-are = rw (en, em)
+    -- what is found of a deal, at its place
+    deal-found : (r : Found) → r ≡ foundIf (wrongDeal t x d i j) (dealVerdict t x (place + 1) i j d) →
+        r ≡ foundIf (dealFaultAt t x place) (dealVerdictAt t x place)
+    deal-found r f = let e = deal-place (t .pilots) i j (dealNumber d) hj (number-small d) in rw (e .0, e .1, e .2, deal-of-number d) f
 
-  pub pair-judged : (p : ℕ) → p ≡ first (byPair (wrongPair (ticketOf list) x) m) (n * m) → p < n * m →
-      byPair (pairVerdict (ticketOf list) x) m p ≡ judged (ticketOf list) x
-  pair-judged p e h = rw em (pair-fault (ticketOf list) x p (rw (em, en) at e) (rw (em, en) at h))
+    module _ (before : none (dealFaultAt t x) place) (r : Found)
+        (f : r ≡ foundIf (wrongDeal t x d i j) (dealVerdict t x (place + 1) i j d)) where
+      -- it is at fault, or passed by
+      pub deal-judged : (v : Verdict) → r ≡ Fault v → v ≡ dealsJudged t x
+      deal-judged v e =
+          let h = found-holds _ _ v r (deal-found r f) e in
+          let below : place < 2 * pairs t = omega (arith, row-within i (t .growers) (t .pilots) hi, number-small d) in
+          h .1 ∙ walk-found (dealFaultAt t x) (2 * pairs t) (dealVerdictAt t x) (Sound (2 * pairs t)) place
+          (sym (first-is _ _ place (omega arith) before (λ _. h .0))) below
 
-  pub pairs-judged : (p : ℕ) → p ≡ first (byPair (wrongPair (ticketOf list) x) m) (n * m) → n * m ≤ p →
-      hoursJudged (ticketOf list) x ≡ judged (ticketOf list) x
-  pairs-judged p e h = pairs-pass (ticketOf list) x p (rw (em, en) at e) (rw (em, en) at h)
-
-  pub grower-judged : (i : ℕ) → i ≡ first (growerOverIn (ticketOf list) x m) n → i < n → GrowerOverHours i ≡ hoursJudged (ticketOf list) x
-  grower-judged i e h = grower-fault (ticketOf list) x i (rw (em, en) at e) (rw en at h)
-
-  module _ (i : ℕ) (ei : i ≡ first (growerOverIn (ticketOf list) x m) n) (hi : n ≤ i) (j : ℕ)
-      (ej : j ≡ first (pilotOverIn (ticketOf list) x n) m) where
-    pub pilot-judged : j < m → PilotOverHours j ≡ hoursJudged (ticketOf list) x
-    pilot-judged h = pilot-fault (ticketOf list) x i (rw (em, en) at ei) (rw en at hi) j (rw (en, em) at ej) (rw em at h)
-
-    pub hours-judged : m ≤ j → dealsJudged (ticketOf list) x ≡ hoursJudged (ticketOf list) x
-    hours-judged h = hours-pass (ticketOf list) x i (rw (em, en) at ei) (rw en at hi) j (rw (en, em) at ej) (rw em at h)
-
-  pub deal-judged : (p : ℕ) → p ≡ first (dealFaultAt (ticketOf list) x) (2 * (n * m)) → p < 2 * (n * m) →
-      dealVerdictAt (ticketOf list) x p ≡ dealsJudged (ticketOf list) x
-  deal-judged p e h = deal-fault (ticketOf list) x p (rw pairs-are at e) (rw pairs-are at h)
-
-  pub deals-judged : (p k : ℕ) → k ≡ n * m → p ≡ first (dealFaultAt (ticketOf list) x) (2 * (n * m)) → 2 * (n * m) ≤ p →
-      Sound (2 * k) ≡ dealsJudged (ticketOf list) x
-  deals-judged p k ek e h =
-      ap (λ (c : ℕ). Sound (2 * c)) (ek ∙ pairs-are) ∙ deals-pass (ticketOf list) x p (rw pairs-are at e) (rw pairs-are at h)
+      pub deal-passed : r ≡ Nothing → none (dealFaultAt t x) (place + 1)
+      deal-passed e = none-more _ _ before (found-fails _ _ r (deal-found r f) e)

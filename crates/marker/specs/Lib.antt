@@ -1,4 +1,5 @@
 pub mod Verdict
+pub mod Values
 pub mod Marked
 pub mod Examples
 pub mod Tables

@@ -6,10 +6,12 @@ use Prim.Native.Nat.{ℕ}
 use Rattle.reader.specs.Walk.{Outcome, Refusal, Numbers}
 use Rattle.reader.specs.Answer.{unpacked, settlementRead}
 use Rattle.market.specs.Market as market
+use Rattle.marker.specs.declared.Values.{Values}
 use Rattle.marker.specs.declared.Verdict.{Verdict}
 use Rattle.marker.specs.declared.Verdict.the-variants.{Refused}
 use Rattle.tables.specs.View.{growersOf, pilotsOf, ticketOf, settlementOf}
 use Rattle.marker.specs.Verdict.{judged}
+use Rattle.marker.specs.Values.{valuesOf}
 
 -- the ticket's numbers are xs
 abbrev pub settlementMarked : List ℕ → Outcome → Verdict
@@ -22,6 +24,10 @@ ticketMarked (Numbers xs) settlement = settlementMarked xs (settlementRead (grow
 
 abbrev pub marked : List ℕ → List ℕ → Verdict
 marked ticket settlement = ticketMarked (unpacked ticket) settlement
+
+-- the same in the paper's number and values
+abbrev pub markedValues : List ℕ → List ℕ → Values
+markedValues ticket settlement = valuesOf (marked ticket settlement)
 
 -- The bytes are a ticket and a settlement file of it, and the settlement is sound.
 pub record SoundFiles (ticket settlement : List ℕ) : Type 0 where

@@ -1,52 +1,34 @@
--- Rows, pairs and parties, as the code holds a ticket and a settlement, in market's terms.
+-- Parties, and what a walk found, as the code holds them.
 -- Assumes nothing.
-use Prim.Native.Nat.{ℕ, _-_, _<_, _≤_}
+use Prim.Native.Nat.{ℕ, _+_, _*_, _-_, _<_}
 use mathlib.Core.Path.{_≡_}
-use mathlib.Core.Bool.{Bool, cond, _||_}
+use mathlib.Core.Bool.{Bool, true, false, cond, _||_}
 use mathlib.Core.List.{List, []}
 use lib.Dec.{ltb}
-use lib.ListN.{getD, set}
+use lib.ListN.{getD}
+use Rattle.grid.specs.Grid.{Grid}
+use Rattle.grid.specs.First.{first}
 use Rattle.market.specs.declared.Deal.{Deal}
 use Rattle.market.specs.Market.{Ticket, Settlement, sumDeals, earnedByGrower, earnedByPilot}
+use Rattle.market.specs.Tables.{byDeal, ticketIn, settlementIn}
+use Rattle.marker.specs.declared.Found.{Found}
+use Rattle.marker.specs.declared.Found.the-variants.{Nothing, Fault}
 use Rattle.marker.specs.declared.Party.{Party}
 use Rattle.marker.specs.declared.Spare.{Spare}
 use Rattle.marker.specs.declared.Verdict.{Verdict}
-use Rattle.marker.specs.declared.Verdict.the-variants.{TariffOverCap, FreeOverCap, WrongPay}
-use Rattle.tables.specs.declared.Pair.{Pair}
-use Rattle.market.specs.Tables.{byDeal}
-use Rattle.tables.specs.View.{growersOf, pilotsOf}
-use Rattle.tables.specs.Pairs.{pairAt}
-use Rattle.marker.specs.Verdict.{pairTest, idleTest, blocksTest, cheapestSpare, byPair}
+use Rattle.marker.specs.declared.Verdict.the-variants.{Idle, Blocks}
+use Rattle.marker.specs.Verdict.{cheapestSpare, idleTest, blocksTest, dealNumber}
 
--- a ticket of n growers and m pilots, within the limits
-pub record Sized (n m : ℕ) (list : List ℕ) : Type 0 where
-  pub growers : n ≡ growersOf list
-  pub pilots : m ≡ pilotsOf list
-  pub fewGrowers : n ≤ 16
-  pub fewPilots : m ≤ 16
+-- Walks.
 
--- Pairs.
+-- the verdict on a fault, if there is one
+abbrev pub foundIf : Bool → Verdict → Found
+foundIf true v = Fault v
+foundIf false v = Nothing
 
--- the hours and the cap of a deal
-abbrev pub hoursIn : Pair → Deal → ℕ
-hoursIn p = byDeal (p .«tariff_hours») (p .«free_hours»)
-
-abbrev pub capIn : Pair → Deal → ℕ
-capIn p = byDeal (p .«tariff_cap») (p .«free_cap»)
-
--- the test of a pair
-abbrev pub pairTestIn : Pair → Bool
-pairTestIn p = pairTest (p .«tariff_hours») (p .«tariff_cap») (p .«free_hours») (p .«free_cap») (p .pay) (p .joint)
-
--- the test of pairs at place i * m + j
-abbrev pub wrongPairIn : List (List Pair) → ℕ → ℕ → Bool
-wrongPairIn pairs = byPair (λ i j. pairTestIn (pairAt pairs i j))
-
--- the verdict on the pair of grower i and pilot j, if it is at fault
-abbrev pub pairVerdictIn : Pair → ℕ → ℕ → Verdict
-pairVerdictIn p i j =
-    cond (ltb (p .«tariff_cap») (p .«tariff_hours»)) (TariffOverCap i j)
-    (cond (ltb (p .«free_cap») (p .«free_hours»)) (FreeOverCap i j) (WrongPay i j))
+-- the verdict on the first of k places at which a test holds
+abbrev pub firstFound : (ℕ → Bool) → ℕ → (ℕ → Verdict) → Found
+firstFound test k verdict = foundIf (ltb (first test k) k) (verdict (first test k))
 
 -- Parties. A row has a number for each partner.
 
@@ -58,58 +40,78 @@ lines tariff free = byDeal (λ l. getD tariff l 0) (λ l. getD free l 0)
 abbrev pub usedIn : List ℕ → List ℕ → ℕ → ℕ
 usedIn tariff free k = sumDeals (lines tariff free) k
 
--- the hours of grower i with m pilots, and of pilot j with n growers
-abbrev pub growerUsedIn : Settlement → ℕ → ℕ → ℕ
-growerUsedIn x m i = sumDeals (λ e l. x .hours e i l) m
+-- the party with so many own hours and four rows, of k partners
+abbrev pub partyOf : ℕ → List ℕ → List ℕ → List ℕ → List ℕ → ℕ → Party
+partyOf own tariff free earned share k = record {
+  over = ltb own (usedIn tariff free k);
+  unused = own - usedIn tariff free k;
+  tariff = tariff;
+  free = free;
+  earned = earned;
+  share = share;
+}
 
-abbrev pub pilotUsedIn : Settlement → ℕ → ℕ → ℕ
-pilotUsedIn x n j = sumDeals (λ e k. x .hours e k j) n
-
--- grower i, or pilot j, is over his hours
-abbrev pub growerOverIn : Ticket → Settlement → ℕ → ℕ → Bool
-growerOverIn t x m i = ltb (t .growerHours i) (growerUsedIn x m i)
-
-abbrev pub pilotOverIn : Ticket → Settlement → ℕ → ℕ → Bool
-pilotOverIn t x n j = ltb (t .pilotHours j) (pilotUsedIn x n j)
-
--- the party with so many free hours, and with such hours and earnings by deal and partner, one of k
-pub record PartyOf (p : Party) (k free : ℕ) (had worth : Deal → ℕ → ℕ) : Type 0 where
-  pub unused : p .unused ≡ free
-  pub hours : (e : Deal) (l : ℕ) → l < k → lines (p .tariff) (p .free) e l ≡ had e l
-  pub earned : (e : Deal) (l : ℕ) → l < k → lines (p .earned) (p .share) e l ≡ worth e l
-
--- it is grower i, with m pilots
-abbrev pub GrowerIn : Ticket → Settlement → ℕ → ℕ → Party → Type 0
-GrowerIn t x m i p =
-    PartyOf p m (t .growerHours i - growerUsedIn x m i) (λ e l. x .hours e i l) (λ e l. earnedByGrower t x e i l)
-
--- it is pilot j, with n growers
-abbrev pub PilotIn : Ticket → Settlement → ℕ → ℕ → Party → Type 0
-PilotIn t x n j p =
-    PartyOf p n (t .pilotHours j - pilotUsedIn x n j) (λ e k. x .hours e k j) (λ e k. earnedByPilot t x e k j)
+-- the same, of the rows that stand at a place of four squares
+abbrev pub partyAt : List ℕ → Grid → Grid → Grid → Grid → ℕ → ℕ → Party
+partyAt own tariff free earned share k p =
+    partyOf (getD own p 0) (getD tariff p []) (getD free p []) (getD earned p []) (getD share p []) k
 
 -- nobody, where a list of parties has ended
 abbrev pub nobody : Party
-nobody = record { unused = 0; tariff = []; free = []; earned = []; share = [] }
+nobody = record { over = false; unused = 0; tariff = []; free = []; earned = []; share = [] }
 
--- a row without the number at y, if that belongs to the deal itself
-abbrev pub besideOwn : List ℕ → Bool → ℕ → List ℕ
-besideOwn hours own y = cond own (set hours y 0) hours
+-- a party with so many own hours, and with such hours and earnings by deal and partner, one of k
+pub record IsParty (p : Party) (k own : ℕ) (had worth : Deal → ℕ → ℕ) : Type 0 where
+  pub over : p .over ≡ ltb own (sumDeals had k)
+  pub unused : p .unused ≡ own - sumDeals had k
+  pub hours : (e : Deal) (l : ℕ) → l < k → lines (p .tariff) (p .free) e l ≡ had e l
+  pub earned : (e : Deal) (l : ℕ) → l < k → lines (p .earned) (p .share) e l ≡ worth e l
+
+-- it is grower i, or pilot j
+abbrev pub IsGrower : Ticket → Settlement → ℕ → Party → Type 0
+IsGrower t x i p = IsParty p (t .pilots) (t .growerHours i) (λ e l. x .hours e i l) (λ e l. earnedByGrower t x e i l)
+
+abbrev pub IsPilot : Ticket → Settlement → ℕ → Party → Type 0
+IsPilot t x j p = IsParty p (t .growers) (t .pilotHours j) (λ e k. x .hours e k j) (λ e k. earnedByPilot t x e k j)
 
 -- a party's cheapest spare for the deal d with partner y of k; a free hour is worth nothing
 abbrev pub spareIn : Party → ℕ → Deal → ℕ → Spare
 spareIn p k d y = cheapestSpare (p .unused) 0 (lines (p .tariff) (p .free)) (lines (p .earned) (p .share)) k d y
 
--- the deal d of a pair is idle, while grower and pilot have so many free hours
-abbrev pub idleIn : Pair → ℕ → ℕ → Deal → Bool
-idleIn p ofGrower ofPilot d = idleTest (hoursIn p d) (capIn p d) ofGrower ofPilot
+-- a deal below its cap is idle, or blocks: the parties are grower i, one of n, and pilot j, one of m
+abbrev pub idleIn : Deal → Party → Party → ℕ → ℕ → Bool
+idleIn d g p j cap = idleTest (lines (g .tariff) (g .free) d j) cap (g .unused) (p .unused)
 
--- the deal d of a pair blocks, with such spares
-abbrev pub blocksIn : Pair → Spare → Spare → Deal → Bool
-blocksIn p ofGrower ofPilot d =
-    blocksTest d (hoursIn p d) (capIn p d) ofGrower ofPilot (p .«tariff_gain») (p .«tariff_pay») (p .joint)
+abbrev pub blocksIn : Deal → Party → Party → ℕ → ℕ → ℕ → ℕ → ℕ → ℕ → Bool
+blocksIn d g p n m i j cap joint =
+    blocksTest d (lines (g .tariff) (g .free) d j) cap (spareIn g m d j) (spareIn p n d i) (getD (g .earned) j 0) (getD (p .earned) i 0) joint
 
--- the deal d of grower i, one of n, and pilot j, one of m, is idle or blocks
-abbrev pub wrongIn : Party → Party → Pair → ℕ → ℕ → ℕ → ℕ → Deal → Bool
-wrongIn grower pilot p n m i j d =
-    idleIn p (grower .unused) (pilot .unused) d || blocksIn p (spareIn grower m d j) (spareIn pilot n d i) d
+-- the verdict on the deal, if it is idle or blocks
+abbrev pub dealFound : Deal → Party → Party → ℕ → ℕ → ℕ → ℕ → ℕ → ℕ → Found
+dealFound d g p n m i j cap joint =
+    foundIf (idleIn d g p j cap || blocksIn d g p n m i j cap joint)
+    (cond (idleIn d g p j cap) (Idle i j d (2 * (i * m + j) + dealNumber d + 1)) (Blocks i j d (2 * (i * m + j) + dealNumber d + 1)))
+
+-- The rows and squares that n growers and m pilots were made of, beside those that a walk over deals has itself.
+pub record Origin (n m : ℕ) (growers pilots : List Party) (tariffCap freeCap jointGain : Grid) : Type 0 where
+  pub growerHours : List ℕ
+  pub pilotHours : List ℕ
+  pub tariffGain : Grid
+  pub tariffPay : Grid
+  pub tariffHours : Grid
+  pub freeHours : Grid
+  pub pay : Grid
+  pub grower : (i : ℕ) → i < n →
+      IsGrower (ticketIn n m growerHours pilotHours tariffCap tariffGain tariffPay freeCap jointGain)
+      (settlementIn tariffHours freeHours pay) i (getD growers i nobody)
+  pub pilot : (j : ℕ) → j < m →
+      IsPilot (ticketIn n m growerHours pilotHours tariffCap tariffGain tariffPay freeCap jointGain)
+      (settlementIn tariffHours freeHours pay) j (getD pilots j nobody)
+
+-- the ticket and the settlement of all of them
+module _ {n m : ℕ} {growers pilots : List Party} {tariffCap freeCap jointGain : Grid} (o : Origin n m growers pilots tariffCap freeCap jointGain) where
+  abbrev pub ticketFrom : Ticket
+  ticketFrom = ticketIn n m (o .growerHours) (o .pilotHours) tariffCap (o .tariffGain) (o .tariffPay) freeCap jointGain
+
+  abbrev pub settlementFrom : Settlement
+  settlementFrom = settlementIn (o .tariffHours) (o .freeHours) (o .pay)

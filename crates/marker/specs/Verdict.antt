@@ -11,7 +11,7 @@ use Rattle.market.specs.Market.{Ticket, Settlement, cap, usedByGrower, usedByPi
 use Rattle.marker.specs.declared.Spare.{Spare}
 use Rattle.marker.specs.declared.Spare.the-variants.{Nothing, Worth}
 use Rattle.marker.specs.declared.Verdict.{Verdict}
-use Rattle.marker.specs.declared.Verdict.the-variants.{Refused, Sound, TariffOverCap, FreeOverCap, WrongPay}
+use Rattle.marker.specs.declared.Verdict.the-variants.{Sound, TariffOverCap, FreeOverCap, WrongPay}
 use Rattle.marker.specs.declared.Verdict.the-variants.{GrowerOverHours, PilotOverHours, Idle, Blocks}
 
 -- Tests on numbers, as they are asked of a pair and of a deal.
@@ -71,16 +71,15 @@ bothBelow Nothing q v = false
 bothBelow (Worth w) Nothing v = false
 bothBelow (Worth w) (Worth u) v = ltb (w + u) v
 
--- blocks: a tariff deal below its cap, with spares worth less than the gain and the pay (5.8); a free deal below its cap, with
--- two spares that are together worth less than the joint gain (5.9)
-abbrev pub blocksTest : Deal → ℕ → ℕ → Spare → Spare → ℕ → ℕ → ℕ → Bool
-blocksTest Tariff hours cap ofGrower ofPilot gain pay joint = ltb hours cap && (below ofGrower gain && below ofPilot pay)
-blocksTest Free hours cap ofGrower ofPilot gain pay joint = ltb hours cap && bothBelow ofGrower ofPilot joint
+-- an hour more outweighs two spares: those of a tariff deal are worth less than the gain and the pay, each; those of a free deal are
+-- together worth less than the joint gain
+abbrev pub outweighs : Deal → Spare → Spare → ℕ → ℕ → ℕ → Bool
+outweighs Tariff ofGrower ofPilot gain pay joint = below ofGrower gain && below ofPilot pay
+outweighs Free ofGrower ofPilot gain pay joint = bothBelow ofGrower ofPilot joint
 
--- a deal is at fault: it is idle or blocks
-abbrev pub dealTest : Deal → ℕ → ℕ → ℕ → ℕ → Spare → Spare → ℕ → ℕ → ℕ → Bool
-dealTest d hours cap freeOfGrower freeOfPilot ofGrower ofPilot gain pay joint =
-    idleTest hours cap freeOfGrower freeOfPilot || blocksTest d hours cap ofGrower ofPilot gain pay joint
+-- blocks: a deal below its cap of which an hour more outweighs two spares (5.8 and 5.9)
+abbrev pub blocksTest : Deal → ℕ → ℕ → Spare → Spare → ℕ → ℕ → ℕ → Bool
+blocksTest d hours cap ofGrower ofPilot gain pay joint = ltb hours cap && outweighs d ofGrower ofPilot gain pay joint
 
 -- Walks.
 
@@ -88,10 +87,14 @@ dealTest d hours cap freeOfGrower freeOfPilot ofGrower ofPilot gain pay joint =
 abbrev pub byPair : {A : Type 0} → (ℕ → ℕ → A) → ℕ → ℕ → A
 byPair g m p = g (p / m) (p % m)
 
--- the deal at place 2 * (i * m + j) + d
+-- the deal at place 2 * (i * m + j) + d, and its d
 abbrev pub dealAt : ℕ → Deal
 dealAt zero = Tariff
 dealAt (suc d) = Free
+
+abbrev pub dealNumber : Deal → ℕ
+dealNumber Tariff = 0
+dealNumber Free = 1
 
 -- a walk over k places: the verdict of the first at which the test holds, else what comes after
 abbrev pub walk : (ℕ → Bool) → ℕ → (ℕ → Verdict) → Verdict → Verdict
@@ -172,73 +175,3 @@ module _ (t : Ticket) (x : Settlement) where
   -- all four walks: pairs first
   abbrev pub judged : Verdict
   judged = walk pairFaultAt (pairs t) (byPair pairVerdict (t .pilots)) hoursJudged
-
--- The paper's number and values of each verdict. A refusal has a number of its own.
-
-abbrev pub refusalNumber : Verdict → ℕ
-refusalNumber (Refused why) = why
-refusalNumber (Sound count) = 0
-refusalNumber (TariffOverCap i j) = 0
-refusalNumber (FreeOverCap i j) = 0
-refusalNumber (WrongPay i j) = 0
-refusalNumber (GrowerOverHours i) = 0
-refusalNumber (PilotOverHours j) = 0
-refusalNumber (Idle i j d count) = 0
-refusalNumber (Blocks i j d count) = 0
-
-abbrev pub verdictNumber : Verdict → ℕ
-verdictNumber (Refused why) = 0
-verdictNumber (Sound count) = 1
-verdictNumber (TariffOverCap i j) = 2
-verdictNumber (FreeOverCap i j) = 3
-verdictNumber (WrongPay i j) = 4
-verdictNumber (GrowerOverHours i) = 5
-verdictNumber (PilotOverHours j) = 6
-verdictNumber (Idle i j d count) = 7
-verdictNumber (Blocks i j d count) = 8
-
-abbrev pub verdictGrower : Verdict → ℕ
-verdictGrower (Refused why) = 0
-verdictGrower (Sound count) = 0
-verdictGrower (TariffOverCap i j) = i
-verdictGrower (FreeOverCap i j) = i
-verdictGrower (WrongPay i j) = i
-verdictGrower (GrowerOverHours i) = i
-verdictGrower (PilotOverHours j) = 0
-verdictGrower (Idle i j d count) = i
-verdictGrower (Blocks i j d count) = i
-
-abbrev pub verdictPilot : Verdict → ℕ
-verdictPilot (Refused why) = 0
-verdictPilot (Sound count) = 0
-verdictPilot (TariffOverCap i j) = j
-verdictPilot (FreeOverCap i j) = j
-verdictPilot (WrongPay i j) = j
-verdictPilot (GrowerOverHours i) = 0
-verdictPilot (PilotOverHours j) = j
-verdictPilot (Idle i j d count) = j
-verdictPilot (Blocks i j d count) = j
-
--- a place without use is tariff; 3 and 4 name the free deal
-abbrev pub verdictDeal : Verdict → Deal
-verdictDeal (Refused why) = Tariff
-verdictDeal (Sound count) = Tariff
-verdictDeal (TariffOverCap i j) = Tariff
-verdictDeal (FreeOverCap i j) = Free
-verdictDeal (WrongPay i j) = Free
-verdictDeal (GrowerOverHours i) = Tariff
-verdictDeal (PilotOverHours j) = Tariff
-verdictDeal (Idle i j d count) = d
-verdictDeal (Blocks i j d count) = d
-
--- the deals looked at in the last walk
-abbrev pub verdictCount : Verdict → ℕ
-verdictCount (Refused why) = 0
-verdictCount (Sound count) = count
-verdictCount (TariffOverCap i j) = 0
-verdictCount (FreeOverCap i j) = 0
-verdictCount (WrongPay i j) = 0
-verdictCount (GrowerOverHours i) = 0
-verdictCount (PilotOverHours j) = 0
-verdictCount (Idle i j d count) = count
-verdictCount (Blocks i j d count) = count

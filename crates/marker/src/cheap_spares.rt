@@ -1,11 +1,12 @@
 // The cheapest spare of a party for a deal.
 ghost use mathlib.Core.Path.{_≡_};
 ghost use Prim.Native.Nat.{_+_, _<_, _≤_};
-ghost use Rattle.marker.specs.Verdict.{countIn, cheapestOf, below, bothBelow, dealAt};
-ghost use Rattle.marker.specs.Tables.{lines, besideOwn};
-ghost use Rattle.marker.specs.Tables.{spareIn};
+ghost use lib.ListN.{set};
+ghost use Rattle.marker.specs.Verdict.{countIn, cheapestOf, below, bothBelow};
+ghost use Rattle.marker.specs.Tables.{lines, spareIn};
 use crate::Party;
 use crate::Spare;
+use market::Deal;
 
 // The cheaper of a spare and hours that are worth so much each, if there are any.
 fn count_in(spare: Spare, hours: u16, worth: u16) -> Spare
@@ -44,31 +45,30 @@ fn cheapest(
     best
 }
 
-// A party's hours with each partner, without those with partner y if these are the deal's own.
-fn beside_own(hours: [u16; 16], own: bool, y: usize) -> [u16; 16]
+// A party's hours in deals of one kind without those with partner y: the deal's own.
+fn without(hours: [u16; 16], y: usize) -> [u16; 16]
     requires { ⌜ y < 16 ⌝ }
-    ensures { λ r. ⌜ r ≡ besideOwn hours own y ⌝ }
+    ensures { λ r. ⌜ r ≡ set hours y 0 ⌝ }
 {
     let mut rest = hours;
-    if own {
-        rest[y] = 0;
-    }
+    rest[y] = 0;
     rest
 }
 
-// A party's cheapest spare for the deal d with partner y.
-pub(crate) fn cheapest_spare(party: Party, partners: usize, d: usize, y: usize) -> Spare
-    requires { ⌜ (partners ≤ 16) × (d < 2) × (y < 16) ⌝ }
-    ensures { λ r. ⌜ r ≡ spareIn party partners (dealAt d) y ⌝ }
+// A party's cheapest spare for a deal with partner y. The pair's other deal counts as any other.
+pub(crate) fn cheapest_spare(party: Party, partners: usize, deal: Deal, y: usize) -> Spare
+    requires { ⌜ (partners ≤ 16) × (y < 16) ⌝ }
+    ensures { λ r. ⌜ r ≡ spareIn party partners deal y ⌝ }
 {
-    let by_tariff = party.tariff;
-    let by_free = party.free;
+    let tariff = party.tariff;
+    let free = party.free;
     let earned = party.earned;
     let share = party.share;
     let free_hour = count_in(Spare::Nothing, party.unused, 0);
-    let tariff = beside_own(by_tariff, d == 0, y);
-    let free = beside_own(by_free, d == 1, y);
-    cheapest(free_hour, tariff, free, earned, share, partners)
+    match deal {
+        Deal::Tariff => cheapest(free_hour, without(tariff, y), free, earned, share, partners),
+        Deal::Free => cheapest(free_hour, tariff, without(free, y), earned, share, partners),
+    }
 }
 
 pub(crate) fn below(spare: Spare, amount: u16) -> bool

@@ -1,30 +1,38 @@
 // Deals: verdicts 7 and 8.
 ghost use mathlib.Core.Path.{_≡_};
-ghost use mathlib.Core.Bool.{cond, _&&_};
-ghost use Prim.Native.Nat.{_+_, _*_, _/_, _%_, _<_, _≤_};
-ghost use Rattle.grid.specs.First.{first};
+ghost use Prim.Native.Nat.{_+_, _*_, _<_, _≤_};
+ghost use lib.ListN.{getD};
 ghost use Rattle.market.specs.Tables.{byDeal};
-ghost use Rattle.tables.specs.View.{ticketOf, settlementOf};
-ghost use Rattle.marker.specs.Verdict.{idleTest, blocksTest, dealAt, dealFaultAt, dealVerdictAt};
-ghost use Rattle.marker.specs.Tables.{Sized, idleIn, blocksIn, wrongIn};
-ghost use Rattle.tables.specs.Pairs.{PairsOf};
-ghost use Rattle.marker.specs.declared.Verdict.the-variants as Verdict;
+ghost use Rattle.marker.specs.Verdict.{idleTest, outweighs, blocksTest, dealNumber, dealsJudged};
+ghost use Rattle.marker.specs.Tables.{lines, spareIn, dealFound, Origin, ticketFrom, settlementFrom};
+use crate::Found;
 use crate::Party;
 use crate::Spare;
 use crate::Verdict;
 use crate::cheap_spares::below;
 use crate::cheap_spares::both_below;
 use crate::cheap_spares::cheapest_spare;
-use crate::parties::all_pilots;
-use crate::parties::grower_at;
-use crate::parties::pilot_at;
 use market::Deal;
-use tables::Pair;
 
-fn deal_of(d: usize) -> Deal
-    ensures { λ r. ⌜ r ≡ dealAt d ⌝ }
+// One of two numbers, by the deal.
+fn of_deal(deal: Deal, tariff: u16, free: u16) -> u16
+    ensures { λ r. ⌜ r ≡ byDeal tariff free deal ⌝ }
 {
-    if d == 0 { Deal::Tariff } else { Deal::Free }
+    match deal {
+        Deal::Tariff => tariff,
+        Deal::Free => free,
+    }
+}
+
+// A party's hours in a deal with partner y.
+fn hours_with(party: Party, deal: Deal, y: usize) -> u16
+    requires { ⌜ y < 16 ⌝ }
+    ensures { λ r. ⌜ r ≡ lines (party .tariff) (party .free) deal y ⌝ }
+{
+    match deal {
+        Deal::Tariff => party.tariff[y],
+        Deal::Free => party.free[y],
+    }
 }
 
 fn idle(hours: u16, cap: u16, of_grower: u16, of_pilot: u16) -> bool
@@ -33,157 +41,144 @@ fn idle(hours: u16, cap: u16, of_grower: u16, of_pilot: u16) -> bool
     hours < cap && (0 < of_grower && 0 < of_pilot)
 }
 
+// An hour more of a deal outweighs two spares.
+fn outweighs(deal: Deal, of_grower: Spare, of_pilot: Spare, gain: u16, pay: u16, joint: u16) -> bool
+    ensures { λ r. ⌜ r ≡ outweighs deal «of_grower» «of_pilot» gain pay joint ⌝ }
+{
+    match deal {
+        Deal::Tariff => below(of_grower, gain) && below(of_pilot, pay),
+        Deal::Free => both_below(of_grower, of_pilot, joint),
+    }
+}
+
+// The deal of grower i, one of n, and pilot j, one of m, blocks.
 fn blocks(
     deal: Deal,
     hours: u16,
     cap: u16,
-    of_grower: Spare,
-    of_pilot: Spare,
-    gain: u16,
-    pay: u16,
-    joint: u16,
-) -> bool
-    ensures { λ r. ⌜ r ≡ blocksTest deal hours cap «of_grower» «of_pilot» gain pay joint ⌝ }
-{
-    match deal {
-        Deal::Tariff => hours < cap && (below(of_grower, gain) && below(of_pilot, pay)),
-        Deal::Free => hours < cap && both_below(of_grower, of_pilot, joint),
-    }
-}
-
-// One of two numbers, by the deal.
-fn of_deal(d: usize, tariff: u16, free: u16) -> u16
-    ensures { λ r. ⌜ r ≡ byDeal tariff free (dealAt d) ⌝ }
-{
-    if d == 0 { tariff } else { free }
-}
-
-// The deal d of a pair is idle, while grower and pilot have so many free hours.
-fn idle_in(pair: Pair, of_grower: u16, of_pilot: u16, d: usize) -> bool
-    ensures { λ r. ⌜ r ≡ idleIn pair «of_grower» «of_pilot» (dealAt d) ⌝ }
-{
-    let hours = of_deal(d, pair.tariff_hours, pair.free_hours);
-    let cap = of_deal(d, pair.tariff_cap, pair.free_cap);
-    idle(hours, cap, of_grower, of_pilot)
-}
-
-// The deal d of a pair blocks, with such spares.
-fn blocks_in(pair: Pair, of_grower: Spare, of_pilot: Spare, d: usize) -> bool
-    ensures { λ r. ⌜ r ≡ blocksIn pair «of_grower» «of_pilot» (dealAt d) ⌝ }
-{
-    let hours = of_deal(d, pair.tariff_hours, pair.free_hours);
-    let cap = of_deal(d, pair.tariff_cap, pair.free_cap);
-    blocks(
-        deal_of(d),
-        hours,
-        cap,
-        of_grower,
-        of_pilot,
-        pair.tariff_gain,
-        pair.tariff_pay,
-        pair.joint,
-    )
-}
-
-// The deal d of grower i, one of n, and pilot j, one of m, is idle or blocks.
-fn wrong_deal(
     grower: Party,
     pilot: Party,
-    pair: Pair,
     n: usize,
     m: usize,
     i: usize,
     j: usize,
-    d: usize,
+    joint: u16,
 ) -> bool
-    requires { ⌜ (n ≤ 16) × (m ≤ 16) × (i < 16) × (j < 16) × (d < 2) ⌝ }
-    ensures { λ r. ⌜ r ≡ wrongIn grower pilot pair n m i j (dealAt d) ⌝ }
+    requires { ⌜ (n ≤ 16) × (m ≤ 16) × (i < 16) × (j < 16) ⌝ }
+    ensures { λ r. ⌜ r ≡ blocksTest deal hours cap (spareIn grower m deal j) (spareIn pilot n deal i)
+        (getD (grower .earned) j 0) (getD (pilot .earned) i 0) joint ⌝ }
 {
-    if idle_in(pair, grower.unused, pilot.unused, d) {
-        return true;
+    if cap <= hours {
+        return false;
     }
-    let of_grower = cheapest_spare(grower, m, d, j);
-    let of_pilot = cheapest_spare(pilot, n, d, i);
-    blocks_in(pair, of_grower, of_pilot, d)
+    let of_grower = cheapest_spare(grower, m, deal, j);
+    let of_pilot = cheapest_spare(pilot, n, deal, i);
+    outweighs(
+        deal,
+        of_grower,
+        of_pilot,
+        grower.earned[j],
+        pilot.earned[i],
+        joint,
+    )
 }
 
-// The place of a deal. The product is proved to fit here, once.
-fn deal_place(n: usize, m: usize, i: usize, j: usize, d: usize) -> usize
-    requires { ⌜ (n ≤ 16) × (m ≤ 16) × (i < n) × (j < m) × (d < 2) ⌝ }
-    ensures { λ r. ⌜ r ≡ 2 * (i * m + j) + d ⌝ }
+// How many deals have been looked at, this one included. The product is proved to fit here, once.
+fn looked_at(m: usize, i: usize, j: usize, deal: Deal) -> usize
+    requires { ⌜ (m ≤ 16) × (i < 16) × (j < 16) ⌝ }
+    ensures { λ r. ⌜ r ≡ 2 * (i * m + j) + dealNumber deal + 1 ⌝ }
 {
-    2 * (i * m + j) + d
+    let before = 2 * (i * m + j);
+    match deal {
+        Deal::Tariff => before + 1,
+        Deal::Free => before + 2,
+    }
 }
 
-// The last walk: the first deal that is idle or blocks.
-pub(crate) fn first_wrong_deal(
-    ticket: &[u16],
-    settlement: &[u16],
-    square: [[Pair; 16]; 16],
+// The fault of a deal of grower i, one of n, and pilot j, one of m, by the caps and the joint gain of the pair.
+fn deal_fault(
+    deal: Deal,
+    grower: Party,
+    pilot: Party,
     n: usize,
     m: usize,
-) -> usize
-    requires { ⌜ Sized n m (now ticket) ⌝ }
-    requires { ⌜ PairsOf (ticketOf (now ticket)) (settlementOf (now settlement)) n m square ⌝ }
-    ensures { λ r. ⌜ r ≡ first (dealFaultAt (ticketOf (now (ticket .entry))) (settlementOf (now (settlement .entry)))) (2 * (n * m)) ⌝ }
+    i: usize,
+    j: usize,
+    tariff_cap: u16,
+    free_cap: u16,
+    joint: u16,
+) -> Found
+    requires { ⌜ (n ≤ 16) × (m ≤ 16) × (i < 16) × (j < 16) ⌝ }
+    ensures { λ r. ⌜ r ≡ dealFound deal grower pilot n m i j (byDeal «tariff_cap» «free_cap» deal) joint ⌝ }
 {
-    let pilots = all_pilots(ticket, settlement, n, m);
-    let mut place = 2 * grid::pairs(n, m);
+    let hours = hours_with(grower, deal, j);
+    let cap = of_deal(deal, tariff_cap, free_cap);
+    if idle(hours, cap, grower.unused, pilot.unused) {
+        let verdict = Verdict::Idle {
+            grower: i,
+            pilot: j,
+            deal,
+            count: looked_at(m, i, j, deal),
+        };
+        return Found::Fault { verdict };
+    }
+    if blocks(deal, hours, cap, grower, pilot, n, m, i, j, joint) {
+        let verdict = Verdict::Blocks {
+            grower: i,
+            pilot: j,
+            deal,
+            count: looked_at(m, i, j, deal),
+        };
+        return Found::Fault { verdict };
+    }
+    Found::Nothing
+}
+
+// The last walk: the first deal that is idle or blocks, growers, pilots and deals in their order; or else sound.
+pub(crate) fn judge_deals(
+    n: usize,
+    m: usize,
+    growers: [Party; 16],
+    pilots: [Party; 16],
+    tariff_cap: [[u16; 16]; 16],
+    free_cap: [[u16; 16]; 16],
+    joint_gain: [[u16; 16]; 16],
+) -> Verdict
+    requires { ⌜ (n ≤ 16) × (m ≤ 16) ⌝ }
+    ensures { λ r. ⌜ ((o : Origin n m growers pilots «tariff_cap» «free_cap» «joint_gain») →
+        r ≡ dealsJudged (ticketFrom o) (settlementFrom o)) ⌝ }
+{
+    let mut verdict = Verdict::Sound {
+        count: 2 * grid::pairs(n, m),
+    };
     'search: for i in 0..n {
-        let grower = grower_at(ticket, settlement, i, m);
+        let grower = growers[i];
         for j in 0..m {
             let pilot = pilots[j];
-            let pair = square[i][j];
-            for d in 0..2usize {
-                if wrong_deal(grower, pilot, pair, n, m, i, j, d) {
-                    place = deal_place(n, m, i, j, d);
+            let mut deal = Deal::Tariff;
+            loop {
+                let found = deal_fault(
+                    deal,
+                    grower,
+                    pilot,
+                    n,
+                    m,
+                    i,
+                    j,
+                    tariff_cap[i][j],
+                    free_cap[i][j],
+                    joint_gain[i][j],
+                );
+                if let Found::Fault { verdict: fault } = found {
+                    verdict = fault;
                     break 'search;
+                }
+                match deal {
+                    Deal::Tariff => deal = Deal::Free,
+                    Deal::Free => break,
                 }
             }
         }
     }
-    place
-}
-
-fn deal_verdict(is_idle: bool, i: usize, j: usize, deal: Deal, count: usize) -> Verdict
-    ensures { λ r. ⌜ r ≡ cond «is_idle» (Verdict.Idle i j deal count) (Verdict.Blocks i j deal count) ⌝ }
-{
-    if is_idle {
-        return Verdict::Idle {
-            grower: i,
-            pilot: j,
-            deal: deal,
-            count: count,
-        };
-    }
-    Verdict::Blocks {
-        grower: i,
-        pilot: j,
-        deal: deal,
-        count: count,
-    }
-}
-
-// The verdict on the deal at a place: idle, or else it blocks.
-pub(crate) fn verdict_at(
-    ticket: &[u16],
-    settlement: &[u16],
-    square: [[Pair; 16]; 16],
-    n: usize,
-    m: usize,
-    place: usize,
-) -> Verdict
-    requires { ⌜ Sized n m (now ticket) ⌝ }
-    requires { ⌜ PairsOf (ticketOf (now ticket)) (settlementOf (now settlement)) n m square ⌝ }
-    requires { ⌜ place < 2 * (n * m) ⌝ }
-    ensures { λ r. ⌜ r ≡ dealVerdictAt (ticketOf (now (ticket .entry))) (settlementOf (now (settlement .entry))) place ⌝ }
-{
-    let i = place / 2 / m;
-    let j = place / 2 % m;
-    let d = place % 2;
-    let grower = grower_at(ticket, settlement, i, m);
-    let pilot = pilot_at(ticket, settlement, j, n);
-    let pair = square[i][j];
-    let is_idle = idle_in(pair, grower.unused, pilot.unused, d);
-    deal_verdict(is_idle, i, j, deal_of(d), place + 1)
+    verdict
 }

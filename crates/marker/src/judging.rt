@@ -1,77 +1,110 @@
-// The verdict on a settlement of a ticket, both as lists of numbers: pairs, then hours, then deals.
+// The verdict on a settlement of a ticket: pairs, then hours, then deals.
 ghost use mathlib.Core.Path.{_≡_};
 ghost use Prim.Native.Nat.{_≤_};
-ghost use Rattle.tables.specs.View.{growersOf, pilotsOf};
-ghost use Rattle.tables.specs.View.{ticketOf, settlementOf};
-ghost use Rattle.marker.specs.Verdict.{dealsJudged, hoursJudged, judged};
-ghost use Rattle.marker.specs.Tables.{Sized};
-ghost use Rattle.tables.specs.Pairs.{PairsOf};
+ghost use Rattle.market.specs.Tables.{ticketIn, settlementIn};
+ghost use Rattle.tables.specs.View.{growersOf, pilotsOf, ticketOf, settlementOf};
+ghost use Rattle.marker.specs.Verdict.{hoursJudged, judged};
+ghost use Rattle.marker.specs.Tables.{Origin, ticketFrom, settlementFrom};
+use crate::Found;
+use crate::Party;
 use crate::Verdict;
-use crate::deal_faults::first_wrong_deal;
-use crate::deal_faults::verdict_at;
-use crate::pair_faults::first_wrong_pair;
-use crate::pair_faults::pair_verdict_at;
-use crate::party_hours::first_grower_over;
-use crate::party_hours::first_pilot_over;
-use tables::Pair;
-use tables::growers;
-use tables::pair_square;
-use tables::pilots;
-
-// The last walk: verdicts 7 and 8, or sound.
-fn judge_deals(
-    ticket: &[u16],
-    settlement: &[u16],
-    square: [[Pair; 16]; 16],
-    n: usize,
-    m: usize,
-) -> Verdict
-    requires { ⌜ Sized n m (now ticket) ⌝ }
-    requires { ⌜ PairsOf (ticketOf (now ticket)) (settlementOf (now settlement)) n m square ⌝ }
-    ensures { λ r. ⌜ r ≡ dealsJudged (ticketOf (now (ticket .entry))) (settlementOf (now (settlement .entry))) ⌝ }
-{
-    let place = first_wrong_deal(ticket, settlement, square, n, m);
-    let end = 2 * grid::pairs(n, m);
-    if end <= place {
-        return Verdict::Sound { count: end };
-    }
-    verdict_at(ticket, settlement, square, n, m, place)
-}
+use crate::deal_faults::judge_deals;
+use crate::pair_faults::first_pair_fault;
+use crate::parties::all_growers;
+use crate::parties::all_pilots;
+use crate::parties::first_over;
+use tables::Quantity;
+use tables::square;
 
 // Growers over their hours, then pilots: verdicts 5 and 6; then deals.
-fn judge_hours(
-    ticket: &[u16],
-    settlement: &[u16],
-    square: [[Pair; 16]; 16],
+fn judge_parties(
     n: usize,
     m: usize,
+    growers: [Party; 16],
+    pilots: [Party; 16],
+    tariff_cap: [[u16; 16]; 16],
+    free_cap: [[u16; 16]; 16],
+    joint_gain: [[u16; 16]; 16],
 ) -> Verdict
-    requires { ⌜ Sized n m (now ticket) ⌝ }
-    requires { ⌜ PairsOf (ticketOf (now ticket)) (settlementOf (now settlement)) n m square ⌝ }
-    ensures { λ r. ⌜ r ≡ hoursJudged (ticketOf (now (ticket .entry))) (settlementOf (now (settlement .entry))) ⌝ }
+    requires { ⌜ (n ≤ 16) × (m ≤ 16) ⌝ }
+    ensures { λ r. ⌜ ((o : Origin n m growers pilots «tariff_cap» «free_cap» «joint_gain») →
+        r ≡ hoursJudged (ticketFrom o) (settlementFrom o)) ⌝ }
 {
-    let grower = first_grower_over(ticket, settlement, n, m);
+    let grower = first_over(growers, n);
     if grower < n {
         return Verdict::GrowerOverHours { grower: grower };
     }
-    let pilot = first_pilot_over(ticket, settlement, n, m);
+    let pilot = first_over(pilots, m);
     if pilot < m {
         return Verdict::PilotOverHours { pilot: pilot };
     }
-    judge_deals(ticket, settlement, square, n, m)
+    judge_deals(n, m, growers, pilots, tariff_cap, free_cap, joint_gain)
 }
 
 // Pairs: verdicts 2 to 4; then hours and deals.
+fn judge_squares(
+    n: usize,
+    m: usize,
+    grower_hours: [u16; 16],
+    pilot_hours: [u16; 16],
+    tariff_cap: [[u16; 16]; 16],
+    tariff_gain: [[u16; 16]; 16],
+    tariff_pay: [[u16; 16]; 16],
+    free_cap: [[u16; 16]; 16],
+    joint_gain: [[u16; 16]; 16],
+    tariff_hours: [[u16; 16]; 16],
+    free_hours: [[u16; 16]; 16],
+    pay: [[u16; 16]; 16],
+) -> Verdict
+    requires { ⌜ (n ≤ 16) × (m ≤ 16) ⌝ }
+    ensures { λ r. ⌜ r ≡ judged (ticketIn n m «grower_hours» «pilot_hours» «tariff_cap» «tariff_gain» «tariff_pay» «free_cap» «joint_gain»)
+        (settlementIn «tariff_hours» «free_hours» pay) ⌝ }
+{
+    let found = first_pair_fault(
+        n,
+        m,
+        tariff_cap,
+        free_cap,
+        joint_gain,
+        tariff_hours,
+        free_hours,
+        pay,
+    );
+    if let Found::Fault { verdict } = found {
+        return verdict;
+    }
+    let growers = all_growers(
+        n,
+        m,
+        grower_hours,
+        tariff_hours,
+        free_hours,
+        tariff_gain,
+        joint_gain,
+        pay,
+    );
+    let pilots = all_pilots(n, m, pilot_hours, tariff_hours, free_hours, tariff_pay, pay);
+    judge_parties(n, m, growers, pilots, tariff_cap, free_cap, joint_gain)
+}
+
+// The same of lists: each quantity of the pairs in a square of its own.
 pub(crate) fn judge(ticket: &[u16], settlement: &[u16]) -> Verdict
     requires { ⌜ (growersOf (now ticket) ≤ 16) × (pilotsOf (now ticket) ≤ 16) ⌝ }
+    requires { ⌜ (growersOf (now settlement) ≡ growersOf (now ticket)) × (pilotsOf (now settlement) ≡ pilotsOf (now ticket)) ⌝ }
     ensures { λ r. ⌜ r ≡ judged (ticketOf (now (ticket .entry))) (settlementOf (now (settlement .entry))) ⌝ }
 {
-    let n = growers(ticket);
-    let m = pilots(ticket);
-    let square = pair_square(ticket, settlement, n, m);
-    let place = first_wrong_pair(square, n, m);
-    if place < grid::pairs(n, m) {
-        return pair_verdict_at(square, n, m, place);
-    }
-    judge_hours(ticket, settlement, square, n, m)
+    judge_squares(
+        tables::growers(ticket),
+        tables::pilots(ticket),
+        tables::grower_hours(ticket),
+        tables::pilot_hours(ticket),
+        square(ticket, Quantity::TariffCap),
+        square(ticket, Quantity::TariffGain),
+        square(ticket, Quantity::TariffPay),
+        square(ticket, Quantity::FreeCap),
+        square(ticket, Quantity::JointGain),
+        square(settlement, Quantity::TariffHours),
+        square(settlement, Quantity::FreeHours),
+        square(settlement, Quantity::Pay),
+    )
 }

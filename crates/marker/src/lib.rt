@@ -1,21 +1,21 @@
 // Marking: whether a settlement of a ticket is sound, and if not, its first fault.
 ghost use mathlib.Core.Path.{_≡_};
 ghost use Prim.Native.Nat.{_≤_};
-ghost use Rattle.grid.specs.Grid.{at};
-ghost use Rattle.grid.specs.First.{first};
 ghost use Rattle.tables.specs.View.{growersOf, pilotsOf};
 ghost use Rattle.reader.specs.Answer.{settlementRead};
-ghost use Rattle.marker.specs.Marked.{settlementMarked, marked};
+ghost use Rattle.marker.specs.Values.{valuesOf};
+ghost use Rattle.marker.specs.Marked.{settlementMarked, marked, markedValues};
 
 mod cheap_spares;
 mod deal_faults;
 mod judging;
 mod pair_faults;
+mod paper;
 mod parties;
-mod party_hours;
 
 use crate::judging::judge;
 use market::Deal;
+pub use paper::values_of;
 use reader::Reply;
 
 // The answer of marking. A fault names the grower, the pilot and the deal; the count is the number of deals looked at in the last walk.
@@ -58,14 +58,32 @@ pub enum Verdict {
     },
 }
 
+// The paper's number and values of a verdict. Places that it has no use for are 0, and the deal is then tariff.
+pub struct Values {
+    pub refusal: u8,
+    pub verdict: u8,
+    pub grower: usize,
+    pub pilot: usize,
+    pub deal: Deal,
+    pub count: usize,
+}
+
+// What a walk found: the verdict on its first fault, or nothing.
+pub(crate) enum Found {
+    Nothing,
+    Fault { verdict: Verdict },
+}
+
 // A party's cheapest spare for a deal, by what it is worth to him.
 pub(crate) enum Spare {
     Nothing,
     Worth { worth: u16 },
 }
 
-// A party: his free hours; with each partner his hours by the tariff and in the free deal, and what an hour of each earns him.
+// A party: whether he is over his hours, and his free hours; with each partner his hours by the tariff and in the free deal, and what
+// an hour of each earns him.
 pub(crate) struct Party {
+    pub(crate) over: bool,
     pub(crate) unused: u16,
     pub(crate) tariff: [u16; 16],
     pub(crate) free: [u16; 16],
@@ -92,6 +110,7 @@ fn mark_against(ticket: &[u16], settlement: &[u8]) -> Verdict
 // Marks a settlement against a ticket, both as the bytes of files.
 pub fn mark(ticket: &[u8], settlement: &[u8]) -> Verdict
     ensures { λ r. ⌜ r ≡ marked (now (ticket .entry)) (now (settlement .entry)) ⌝ }
+    ensures { λ r. ⌜ valuesOf r ≡ markedValues (now (ticket .entry)) (now (settlement .entry)) ⌝ }
 {
     let mut numbers = tables::ticket_list();
     let reply = reader::unpack(ticket, &mut numbers);

@@ -1,12 +1,15 @@
 // Pairs: verdicts 2 to 4.
 ghost use mathlib.Core.Path.{_≡_};
 ghost use Prim.Native.Nat.{_*_, _<_, _≤_};
-ghost use Rattle.grid.specs.First.{first};
-ghost use Rattle.marker.specs.Verdict.{payTest, byPair};
-ghost use Rattle.marker.specs.Tables.{pairTestIn, wrongPairIn, pairVerdictIn};
-ghost use Rattle.tables.specs.Pairs.{pairAt};
+ghost use mathlib.Core.List.{[]};
+ghost use mathlib.Core.Bool.{cond};
+ghost use lib.Dec.{ltb};
+ghost use Rattle.market.specs.Tables.{ticketIn, settlementIn};
+ghost use Rattle.marker.specs.declared.Verdict.the-variants as Verdict;
+ghost use Rattle.marker.specs.Verdict.{payTest, pairTest, byPair, pairVerdict, pairFaultAt};
+ghost use Rattle.marker.specs.Tables.{foundIf, firstFound};
+use crate::Found;
 use crate::Verdict;
-use tables::Pair;
 
 fn wrong_pay(gain: u16, hours: u16, pay: u16) -> bool
     ensures { λ r. ⌜ r ≡ payTest gain hours pay ⌝ }
@@ -14,58 +17,77 @@ fn wrong_pay(gain: u16, hours: u16, pay: u16) -> bool
     gain < pay || (hours == 0 && 0 < pay)
 }
 
-fn wrong_pair(pair: Pair) -> bool
-    ensures { λ r. ⌜ r ≡ pairTestIn pair ⌝ }
+// The fault of the pair of grower i and pilot j, by its hours, caps, pay and joint gain.
+fn pair_fault(
+    i: usize,
+    j: usize,
+    tariff_hours: u16,
+    tariff_cap: u16,
+    free_hours: u16,
+    free_cap: u16,
+    pay: u16,
+    gain: u16,
+) -> Found
+    ensures { λ r. ⌜ r ≡ foundIf (pairTest «tariff_hours» «tariff_cap» «free_hours» «free_cap» pay gain)
+        (cond (ltb «tariff_cap» «tariff_hours») (Verdict.TariffOverCap i j)
+        (cond (ltb «free_cap» «free_hours») (Verdict.FreeOverCap i j) (Verdict.WrongPay i j))) ⌝ }
 {
-    pair.tariff_cap < pair.tariff_hours
-        || (pair.free_cap < pair.free_hours || wrong_pay(pair.joint, pair.free_hours, pair.pay))
+    if tariff_cap < tariff_hours {
+        let verdict = Verdict::TariffOverCap {
+            grower: i,
+            pilot: j,
+        };
+        return Found::Fault { verdict };
+    }
+    if free_cap < free_hours {
+        let verdict = Verdict::FreeOverCap {
+            grower: i,
+            pilot: j,
+        };
+        return Found::Fault { verdict };
+    }
+    if wrong_pay(gain, free_hours, pay) {
+        let verdict = Verdict::WrongPay {
+            grower: i,
+            pilot: j,
+        };
+        return Found::Fault { verdict };
+    }
+    Found::Nothing
 }
 
-// The first pair at fault, at place i * m + j.
-pub(crate) fn first_wrong_pair(square: [[Pair; 16]; 16], n: usize, m: usize) -> usize
+// The first walk: the first pair at fault.
+pub(crate) fn first_pair_fault(
+    n: usize,
+    m: usize,
+    tariff_cap: [[u16; 16]; 16],
+    free_cap: [[u16; 16]; 16],
+    joint_gain: [[u16; 16]; 16],
+    tariff_hours: [[u16; 16]; 16],
+    free_hours: [[u16; 16]; 16],
+    pay: [[u16; 16]; 16],
+) -> Found
     requires { ⌜ (n ≤ 16) × (m ≤ 16) ⌝ }
-    ensures { λ r. ⌜ r ≡ first (wrongPairIn square m) (n * m) ⌝ }
+    ensures { λ r. ⌜ r ≡ firstFound
+        (pairFaultAt (ticketIn n m [] [] «tariff_cap» [] [] «free_cap» «joint_gain») (settlementIn «tariff_hours» «free_hours» pay)) (n * m)
+        (byPair (pairVerdict (ticketIn n m [] [] «tariff_cap» [] [] «free_cap» «joint_gain») (settlementIn «tariff_hours» «free_hours» pay)) m) ⌝ }
 {
     for i in 0..n {
         for j in 0..m {
-            let pair = square[i][j];
-            if wrong_pair(pair) {
-                return grid::pairs(i, m) + j;
+            let found = pair_fault(
+                i,
+                j,
+                tariff_hours[i][j],
+                tariff_cap[i][j],
+                free_hours[i][j],
+                free_cap[i][j],
+                pay[i][j],
+                joint_gain[i][j],
+            );
+            if let Found::Fault { verdict } = found {
+                return Found::Fault { verdict };
             }
         }
     }
-    grid::pairs(n, m)
-}
-
-// The verdict on the pair of grower i and pilot j.
-fn pair_verdict(pair: Pair, i: usize, j: usize) -> Verdict
-    ensures { λ r. ⌜ r ≡ pairVerdictIn pair i j ⌝ }
-{
-    if pair.tariff_cap < pair.tariff_hours {
-        return Verdict::TariffOverCap {
-            grower: i,
-            pilot: j,
-        };
-    }
-    if pair.free_cap < pair.free_hours {
-        return Verdict::FreeOverCap {
-            grower: i,
-            pilot: j,
-        };
-    }
-    Verdict::WrongPay {
-        grower: i,
-        pilot: j,
-    }
-}
-
-// The verdict on the pair at a place.
-pub(crate) fn pair_verdict_at(square: [[Pair; 16]; 16], n: usize, m: usize, place: usize) -> Verdict
-    requires { ⌜ (n ≤ 16) × (m ≤ 16) × (place < n * m) ⌝ }
-    ensures { λ r. ⌜ r ≡ byPair (λ i j. pairVerdictIn (pairAt square i j) i j) m place ⌝ }
-{
-    let i = place / m;
-    let j = place % m;
-    let pair = square[i][j];
-    pair_verdict(pair, i, j)
+    Found::Nothing
 }

@@ -1,101 +1,56 @@
-// Growers and pilots: their free hours, and their hours and earnings with each partner.
+// Growers and pilots: whether they are over their hours, their free hours, and their hours and earnings with each partner. What is said
+// of a grower is said of a pilot too, whose rows are those of the squares on their side.
 ghost use mathlib.Core.Path.{_≡_};
-ghost use Prim.Native.Nat.{ℕ, _+_, _-_, _<_, _≤_};
+ghost use Prim.Native.Nat.{ℕ, _-_, _<_, _≤_};
+ghost use mathlib.Core.List.{[]};
 ghost use lib.ListN.{getD, length};
-ghost use Rattle.market.specs.Market.{earnedByGrower};
-ghost use Rattle.market.specs.declared.Deal.the-variants as Deal;
-ghost use Rattle.tables.specs.View.{quantityOf, pilotHoursOf, ticketOf, settlementOf};
-ghost use Rattle.grid.specs.Fill.{FilledRow};
-ghost use Rattle.marker.specs.Tables.{nobody, GrowerIn, PilotIn};
+ghost use Rattle.grid.specs.Grid.{at};
+ghost use Rattle.grid.specs.Fill.{Filled};
+ghost use Rattle.grid.specs.First.{first};
+ghost use Rattle.market.specs.Tables.{ticketIn, settlementIn};
+ghost use Rattle.marker.specs.Tables.{usedIn, partyOf, partyAt, nobody, IsGrower, IsPilot};
 use crate::Party;
-use crate::party_hours::left;
-use crate::party_hours::used;
-use tables::Quantity;
-use tables::growers;
-use tables::quantity_within;
+use grid::turned;
 
-// A quantity of grower i with each of m pilots, and of pilot j with each of n growers.
-pub(crate) fn of_grower(list: &[u16], quantity: Quantity, i: usize, m: usize) -> [u16; 16]
-    requires { ⌜ (i < 16) × (m ≤ 16) ⌝ }
-    ensures { λ r. ⌜ FilledRow (λ l. quantityOf quantity (now (list .entry)) i l) m r ⌝ }
+// A party's hours over all deals.
+fn used(tariff: [u16; 16], free: [u16; 16], partners: usize) -> u64
+    requires { ⌜ partners ≤ 16 ⌝ }
+    ensures { λ r. ⌜ r ≡ usedIn tariff free partners ⌝ }
 {
-    let mut r = grid::zero_row();
-    for l in 0..m {
-        r[l] = quantity_within(list, quantity, i, l);
+    let mut total: u64 = 0;
+    for l in 0..partners {
+        total += grid::wide(tariff[l]) + grid::wide(free[l]);
     }
-    r
+    total
 }
 
-pub(crate) fn of_pilot(list: &[u16], quantity: Quantity, j: usize, n: usize) -> [u16; 16]
-    requires { ⌜ (j < 16) × (n ≤ 16) ⌝ }
-    ensures { λ r. ⌜ FilledRow (λ k. quantityOf quantity (now (list .entry)) k j) n r ⌝ }
+// What is left of a party's own hours.
+fn left(hours: u16, used: u64) -> u16
+    ensures { λ r. ⌜ r ≡ hours - used ⌝ }
 {
-    let mut r = grid::zero_row();
-    for k in 0..n {
-        r[k] = quantity_within(list, quantity, k, j);
+    if used < grid::wide(hours) {
+        (grid::wide(hours) - used) as u16
+    } else {
+        0
     }
-    r
 }
 
-fn less(a: u16, b: u16) -> u16
-    ensures { λ r. ⌜ r ≡ a - b ⌝ }
+// A party of four rows.
+fn party(
+    hours: u16,
+    tariff: [u16; 16],
+    free: [u16; 16],
+    earned: [u16; 16],
+    share: [u16; 16],
+    partners: usize,
+) -> Party
+    requires { ⌜ partners ≤ 16 ⌝ }
+    ensures { λ r. ⌜ r ≡ partyOf hours tariff free earned share partners ⌝ }
 {
-    if b < a { a - b } else { 0 }
-}
-
-// What grower i has of an hour of each free deal: the joint gain without the pilot's pay.
-fn share_of_grower(ticket: &[u16], settlement: &[u16], i: usize, m: usize) -> [u16; 16]
-    requires { ⌜ (i < 16) × (m ≤ 16) ⌝ }
-    ensures { λ r. ⌜ FilledRow (λ l. earnedByGrower (ticketOf (now (ticket .entry))) (settlementOf (now (settlement .entry)))
-        Deal.Free i l) m r ⌝ }
-{
-    let mut r = grid::zero_row();
-    for l in 0..m {
-        let joint = quantity_within(ticket, Quantity::JointGain, i, l);
-        r[l] = less(joint, quantity_within(settlement, Quantity::Pay, i, l));
-    }
-    r
-}
-
-// Grower i, with m pilots.
-pub(crate) fn grower_at(ticket: &[u16], settlement: &[u16], i: usize, m: usize) -> Party
-    requires { ⌜ (i < 16) × (m ≤ 16) ⌝ }
-    ensures { λ r. ⌜ GrowerIn (ticketOf (now (ticket .entry))) (settlementOf (now (settlement .entry))) m i r ⌝ }
-{
-    let tariff = of_grower(settlement, Quantity::TariffHours, i, m);
-    let free = of_grower(settlement, Quantity::FreeHours, i, m);
-    let earned = of_grower(ticket, Quantity::TariffGain, i, m);
-    let share = share_of_grower(ticket, settlement, i, m);
-    let hours = grid::entry(ticket, 3 + i);
+    let total = used(tariff, free, partners);
     Party {
-        unused: left(hours, used(tariff, free, m)),
-        tariff,
-        free,
-        earned,
-        share,
-    }
-}
-
-// The own hours of pilot j.
-pub(crate) fn hours_of_pilot(ticket: &[u16], j: usize) -> u16
-    requires { ⌜ j < 16 ⌝ }
-    ensures { λ r. ⌜ r ≡ pilotHoursOf (now (ticket .entry)) j ⌝ }
-{
-    grid::entry(ticket, 3 + growers(ticket) + j)
-}
-
-// Pilot j, with n growers.
-pub(crate) fn pilot_at(ticket: &[u16], settlement: &[u16], j: usize, n: usize) -> Party
-    requires { ⌜ (j < 16) × (n ≤ 16) ⌝ }
-    ensures { λ r. ⌜ PilotIn (ticketOf (now (ticket .entry))) (settlementOf (now (settlement .entry))) n j r ⌝ }
-{
-    let tariff = of_pilot(settlement, Quantity::TariffHours, j, n);
-    let free = of_pilot(settlement, Quantity::FreeHours, j, n);
-    let earned = of_pilot(ticket, Quantity::TariffPay, j, n);
-    let share = of_pilot(settlement, Quantity::Pay, j, n);
-    let hours = hours_of_pilot(ticket, j);
-    Party {
-        unused: left(hours, used(tariff, free, n)),
+        over: grid::wide(hours) < total,
+        unused: left(hours, total),
         tariff,
         free,
         earned,
@@ -108,6 +63,7 @@ fn no_parties() -> [Party; 16]
 {
     let row = grid::zero_row();
     let party = Party {
+        over: false,
         unused: 0,
         tariff: row,
         free: row,
@@ -117,15 +73,106 @@ fn no_parties() -> [Party; 16]
     [party; 16]
 }
 
-// All pilots.
-pub(crate) fn all_pilots(ticket: &[u16], settlement: &[u16], n: usize, m: usize) -> [Party; 16]
-    requires { ⌜ (n ≤ 16) × (m ≤ 16) ⌝ }
-    ensures { λ r. ⌜ ((j : ℕ) → j < m →
-        PilotIn (ticketOf (now (ticket .entry))) (settlementOf (now (settlement .entry))) n j (getD r j nobody)) ⌝ }
+// The parties of one side, with so many partners on the other, by their rows in four squares.
+fn parties(
+    count: usize,
+    partners: usize,
+    hours: [u16; 16],
+    tariff_hours: [[u16; 16]; 16],
+    free_hours: [[u16; 16]; 16],
+    earned: [[u16; 16]; 16],
+    share: [[u16; 16]; 16],
+) -> [Party; 16]
+    requires { ⌜ (count ≤ 16) × (partners ≤ 16) ⌝ }
+    ensures { λ r. ⌜ ((p : ℕ) → p < count → getD r p nobody ≡ partyAt hours «tariff_hours» «free_hours» earned share partners p) ⌝ }
 {
     let mut all = no_parties();
-    for j in 0..m {
-        all[j] = pilot_at(ticket, settlement, j, n);
+    for p in 0..count {
+        all[p] = party(
+            hours[p],
+            tariff_hours[p],
+            free_hours[p],
+            earned[p],
+            share[p],
+            partners,
+        );
     }
     all
+}
+
+fn less(a: u16, b: u16) -> u16
+    ensures { λ r. ⌜ r ≡ a - b ⌝ }
+{
+    if b < a { a - b } else { 0 }
+}
+
+// What growers have of an hour of each free deal: the joint gain without the pilot's pay.
+fn grower_shares(
+    n: usize,
+    m: usize,
+    joint_gain: [[u16; 16]; 16],
+    pay: [[u16; 16]; 16],
+) -> [[u16; 16]; 16]
+    requires { ⌜ (n ≤ 16) × (m ≤ 16) ⌝ }
+    ensures { λ r. ⌜ Filled (λ i j. at «joint_gain» i j - at pay i j) n m r ⌝ }
+{
+    let mut q = grid::zeros();
+    for i in 0..n {
+        for j in 0..m {
+            q[i][j] = less(joint_gain[i][j], pay[i][j]);
+        }
+    }
+    q
+}
+
+pub(crate) fn all_growers(
+    n: usize,
+    m: usize,
+    hours: [u16; 16],
+    tariff_hours: [[u16; 16]; 16],
+    free_hours: [[u16; 16]; 16],
+    tariff_gain: [[u16; 16]; 16],
+    joint_gain: [[u16; 16]; 16],
+    pay: [[u16; 16]; 16],
+) -> [Party; 16]
+    requires { ⌜ (n ≤ 16) × (m ≤ 16) ⌝ }
+    ensures { λ r. ⌜ ((i : ℕ) → i < n → IsGrower (ticketIn n m hours [] [] «tariff_gain» [] [] «joint_gain»)
+        (settlementIn «tariff_hours» «free_hours» pay) i (getD r i nobody)) ⌝ }
+{
+    let shares = grower_shares(n, m, joint_gain, pay);
+    parties(n, m, hours, tariff_hours, free_hours, tariff_gain, shares)
+}
+
+pub(crate) fn all_pilots(
+    n: usize,
+    m: usize,
+    hours: [u16; 16],
+    tariff_hours: [[u16; 16]; 16],
+    free_hours: [[u16; 16]; 16],
+    tariff_pay: [[u16; 16]; 16],
+    pay: [[u16; 16]; 16],
+) -> [Party; 16]
+    requires { ⌜ (n ≤ 16) × (m ≤ 16) ⌝ }
+    ensures { λ r. ⌜ ((j : ℕ) → j < m → IsPilot (ticketIn n m [] hours [] [] «tariff_pay» [] [])
+        (settlementIn «tariff_hours» «free_hours» pay) j (getD r j nobody)) ⌝ }
+{
+    let by_tariff = turned(tariff_hours, n, m);
+    let by_free = turned(free_hours, n, m);
+    let earned = turned(tariff_pay, n, m);
+    let share = turned(pay, n, m);
+    parties(m, n, hours, by_tariff, by_free, earned, share)
+}
+
+// The first of so many parties who is over his hours.
+pub(crate) fn first_over(parties: [Party; 16], count: usize) -> usize
+    requires { ⌜ count ≤ 16 ⌝ }
+    ensures { λ r. ⌜ r ≡ first (λ p. getD parties p nobody .over) count ⌝ }
+{
+    for p in 0..count {
+        let party = parties[p];
+        if party.over {
+            return p;
+        }
+    }
+    count
 }

@@ -33,23 +33,23 @@ settlement-back ticket settlement = record {
 }
 
 module _ {t t′ : Ticket} {x x′ : Settlement} (ticket : SameTicket t t′) (settlement : SameSettlement t x x′) where
-  same-grower : (i : ℕ) → i < t .growers → usedByGrower t′ (x′ .hours) i ≡ usedByGrower t (x .hours) i
+  pub same-grower : (i : ℕ) → i < t .growers → usedByGrower t′ (x′ .hours) i ≡ usedByGrower t (x .hours) i
   same-grower i hi = rw (ticket .pilots)
       (sum-same _ _ (t .pilots) (λ j hj. ap₂ _+_ (settlement .hours Tariff i j hi hj) (settlement .hours Free i j hi hj)))
 
-  same-pilot : (j : ℕ) → j < t .pilots → usedByPilot t′ (x′ .hours) j ≡ usedByPilot t (x .hours) j
+  pub same-pilot : (j : ℕ) → j < t .pilots → usedByPilot t′ (x′ .hours) j ≡ usedByPilot t (x .hours) j
   same-pilot j hj = rw (ticket .growers)
       (sum-same _ _ (t .growers) (λ i hi. ap₂ _+_ (settlement .hours Tariff i j hi hj) (settlement .hours Free i j hi hj)))
 
-  same-cap : (d : Deal) (i j : ℕ) → i < t .growers → j < t .pilots → cap t′ d i j ≡ cap t d i j
+  pub same-cap : (d : Deal) (i j : ℕ) → i < t .growers → j < t .pilots → cap t′ d i j ≡ cap t d i j
   same-cap Tariff i j hi hj = ticket .tariffCap i j hi hj
   same-cap Free i j hi hj = ticket .freeCap i j hi hj
 
-  same-earned-grower : (d : Deal) (i j : ℕ) → i < t .growers → j < t .pilots → earnedByGrower t′ x′ d i j ≡ earnedByGrower t x d i j
+  pub same-earned-grower : (d : Deal) (i j : ℕ) → i < t .growers → j < t .pilots → earnedByGrower t′ x′ d i j ≡ earnedByGrower t x d i j
   same-earned-grower Tariff i j hi hj = ticket .tariffGain i j hi hj
   same-earned-grower Free i j hi hj = ap₂ _-_ (ticket .jointGain i j hi hj) (settlement .pay i j hi hj)
 
-  same-earned-pilot : (d : Deal) (i j : ℕ) → i < t .growers → j < t .pilots → earnedByPilot t′ x′ d i j ≡ earnedByPilot t x d i j
+  pub same-earned-pilot : (d : Deal) (i j : ℕ) → i < t .growers → j < t .pilots → earnedByPilot t′ x′ d i j ≡ earnedByPilot t x d i j
   same-earned-pilot Tariff i j hi hj = ticket .tariffPay i j hi hj
   same-earned-pilot Free i j hi hj = settlement .pay i j hi hj
 

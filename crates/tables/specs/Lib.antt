@@ -1,3 +1,2 @@
 -- The definitions that the contracts of `tables` cite. The laws about them stand in proofs/.
 pub mod View
-pub mod Pairs

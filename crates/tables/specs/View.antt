@@ -3,9 +3,7 @@
 -- a settlement with three numbers for each pair.
 -- Assumes nothing.
 use Prim.Native.Nat.{ℕ, _+_, _*_, min}
-use mathlib.Core.Bool.{cond}
 use mathlib.Core.List.{List}
-use lib.Dec.{ltb}
 use lib.ListN.{getD}
 use Rattle.grid.specs.Grid.{Grid}
 use Rattle.grid.specs.Fill.{Filled, FilledRow}
@@ -39,10 +37,6 @@ placeOf Pay n = pairPlace 3 3 2
 
 abbrev pub quantityOf : Quantity → List ℕ → ℕ → ℕ → ℕ
 quantityOf q list i j = getD list (placeOf q (growersOf list) (pilotsOf list) i j) 0
-
--- the same in a square of 16 by 16, and 0 outside of it
-abbrev pub quantityWithin : Quantity → List ℕ → ℕ → ℕ → ℕ
-quantityWithin q list i j = cond (ltb i 16) (cond (ltb j 16) (quantityOf q list i j) 0) 0
 
 -- everybody's own hours
 abbrev pub growerHoursOf : List ℕ → ℕ → ℕ

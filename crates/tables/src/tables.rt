@@ -2,9 +2,8 @@
 ghost use mathlib.Core.Path.{_≡_};
 ghost use Prim.Native.Nat.{_+_, _*_, _<_, min};
 ghost use lib.ListN.{getD};
-ghost use Rattle.grid.specs.Fill.{Filled};
-ghost use Rattle.tables.specs.View.{growersOf, pilotsOf, pairPlace, placeOf, quantityOf, quantityWithin, growerHoursOf, pilotHoursOf};
 ghost use Rattle.grid.specs.Fill.{FilledRow};
+ghost use Rattle.tables.specs.View.{growersOf, pilotsOf, pairPlace, placeOf, quantityOf, growerHoursOf, pilotHoursOf, Holds};
 use crate::Quantity;
 
 // Where the k-th of `each` numbers of a pair stands. The product is proved to fit here, once.
@@ -46,7 +45,7 @@ pub fn pilots(list: &[u16]) -> usize
 }
 
 // A quantity of the pair of grower i and pilot j.
-pub(crate) fn quantity_at(list: &[u16], quantity: Quantity, i: usize, j: usize) -> u16
+fn quantity_at(list: &[u16], quantity: Quantity, i: usize, j: usize) -> u16
     requires { ⌜ (i < 16) × (j < 16) ⌝ }
     ensures { λ r. ⌜ r ≡ quantityOf quantity (now (list .entry)) i j ⌝ }
 {
@@ -55,23 +54,9 @@ pub(crate) fn quantity_at(list: &[u16], quantity: Quantity, i: usize, j: usize) 
     grid::entry(list, place(quantity, n, m, i, j))
 }
 
-// The same on every input: 0 for a pair outside of the square.
-pub fn quantity_within(list: &[u16], quantity: Quantity, i: usize, j: usize) -> u16
-    ensures { λ r. ⌜ r ≡ quantityWithin quantity (now (list .entry)) i j ⌝ }
-{
-    if grid::SIDE <= i {
-        return 0;
-    }
-    if grid::SIDE <= j {
-        return 0;
-    }
-    quantity_at(list, quantity, i, j)
-}
-
-// A quantity of every pair, growers by pilots, as far as the square reaches.
+// A quantity of every pair, growers by pilots, as far as the square reaches; 0 in all other cells.
 pub fn square(list: &[u16], quantity: Quantity) -> [[u16; 16]; 16]
-    ensures { λ r. ⌜ Filled (quantityOf quantity (now (list .entry)))
-        (min 16 (growersOf (now (list .entry)))) (min 16 (pilotsOf (now (list .entry)))) r ⌝ }
+    ensures { λ r. ⌜ Holds quantity (now (list .entry)) r ⌝ }
 {
     let rows = grid::within(growers(list));
     let columns = grid::within(pilots(list));

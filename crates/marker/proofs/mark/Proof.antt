@@ -1,8 +1,9 @@
 -- `marker::mark` meets its contract: the ticket's bytes are refused, or unpacked into numbers that the settlement is marked against.
 -- Assumes nothing.
-use mathlib.Core.Path.{_≡_, sym, _∙_}
+use mathlib.Core.Path.{_≡_, sym, ap, _∙_}
 use Rattle.reader.specs.Walk.{Numbers}
 use Rattle.reader.specs.Answer.{unpacked}
+use Rattle.marker.specs.Values.{valuesOf}
 use Rattle.marker.proofs.Marking.{refused-ticket, unpacked-is, marked-ticket, few-parties}
 use borrow.Author.Needs.{needs}
 use Rattle.marker.proofs.mark.Statement.{statement}
@@ -21,11 +22,11 @@ mark-against-requires c κs = few-parties _ _ (numbers-are c)
 
 returns : tie.Need-returns
 returns c =
-    refused-ticket _ _ (c .before .before .before .before .before .before .ticket-list .result) _ (c .before .before .before .before .before .before .ticket-list .ensures .1)
-    (sym (c .before .reply .given .1) ∙ c .before .before .before .before .unpack .ensures .0)
+    let e = refused-ticket _ _ (c .before .before .before .before .before .before .ticket-list .result) _ (c .before .before .before .before .before .before .ticket-list .ensures .1)
+    (sym (c .before .reply .given .1) ∙ c .before .before .before .before .unpack .ensures .0) in (e, ap valuesOf e)
 
 returns-2 : tie.Need-returns-2
-returns-2 c = marked-ticket _ _ _ _ (numbers-are (c .before)) (c .mark-against .ensures)
+returns-2 c = let e = marked-ticket _ _ _ _ (numbers-are (c .before)) (c .mark-against .ensures) in (e, ap valuesOf e)
 
 pub mark-spec : {M : Type 1} → statement M
 mark-spec =

@@ -5,7 +5,7 @@ use native.Mathlib.Omega.{arith}
 use Rattle.reader.specs.Walk.{Numbers}
 use Rattle.reader.specs.Answer.{settlementRead}
 use Rattle.tables.specs.View.{growersOf, pilotsOf}
-use Rattle.marker.proofs.Marking.{refused-answer, answer-is, judged-answer}
+use Rattle.marker.proofs.Marking.{refused-answer, answer-is, answer-sized, judged-answer}
 use borrow.Author.Needs.{needs}
 use Rattle.marker.proofs.mark_against.Statement.{statement}
 use Rattle.marker.proofs.mark_against.Tie as tie
@@ -27,7 +27,10 @@ answer c =
     answer-is _ _ _ _ _ _ (sym (c .before .before .before .reply2 .given .1) ∙ u .ensures .0) (rw (u .ensures .1) at (c .front .ensures))
 
 judge-requires : tie.Need-judge-requires
-judge-requires c κs = c .before .before .before .before .before .before .before .before .before .before .before .before .before .before .before .pre
+judge-requires c κs =
+    let q = c .before .before .before .before .before .before .before .before .before in
+    let s = q .before .before .before .before .before .before in
+    (s .pre, answer-sized (s .args .ticket .now) _ _ _ _ (growers-are q) (pilots-are q) (answer c))
 
 returns : tie.Need-returns
 returns c =

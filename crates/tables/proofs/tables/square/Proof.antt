@@ -1,9 +1,8 @@
 -- `tables::square` meets its contract: the square is filled row by row.
 use Prim.Native.Nat.{_-_, _≤_, min}
 use native.Mathlib.Omega.{arith}
-use Rattle.grid.proofs.Filling.{Part, part-start, part-put, part-row, part-end}
+use Rattle.grid.proofs.Filling.{Part, part-start, part-put, part-row, part-end, filled-as}
 use Rattle.tables.specs.View.{quantityOf, growersOf, pilotsOf}
-use Rattle.tables.proofs.Filling.{filled-as}
 use borrow.Author.Needs.{needs}
 use Rattle.tables.proofs.tables.square.Statement.{statement}
 use Rattle.tables.proofs.tables.square.Tie as tie

@@ -1,0 +1,67 @@
+-- `marker::grower_shares` meets its contract: the square is filled row by row.
+use Prim.Native.Nat.{_-_, _≤_}
+use native.Mathlib.Omega.{arith}
+use Rattle.grid.specs.Grid.{at}
+use Rattle.grid.proofs.Filling.{Part, part-start, part-put, part-row, part-end}
+use borrow.Author.Needs.{needs}
+use Rattle.marker.proofs.parties.grower_shares.Statement.{statement}
+use Rattle.marker.proofs.parties.grower_shares.Tie as tie
+
+abbrev Inv-loop2 : tie.InvT-loop2
+Inv-loop2 n m joint-gain pay q₀ i j₀ q j = (j ≤ m) × Part (λ a b. at joint-gain a b - at pay a b) m i j q
+
+abbrev μ-loop2 : tie.MeasureT-loop2
+μ-loop2 n m joint-gain pay q₀ i j₀ q j = m - j
+
+abbrev Inv-loop : tie.InvT-loop
+Inv-loop n m joint-gain pay q₀ i₀ q i = (i ≤ n) × Part (λ a b. at joint-gain a b - at pay a b) m i 0 q
+
+abbrev μ-loop : tie.MeasureT-loop
+μ-loop n m joint-gain pay q₀ i₀ q i = n - i
+
+loop-holds : tie.Need-loop-holds Inv-loop2 μ-loop2 Inv-loop μ-loop
+loop-holds c = (omega arith, part-start _ _ _ (c .zeros .ensures .0) (c .zeros .ensures .1))
+
+loop2-holds : tie.Need-loop2-holds Inv-loop2 μ-loop2 Inv-loop μ-loop
+loop2-holds c = (omega arith, c .before .loop .inv .1)
+
+loop2-again : tie.Need-loop2-again Inv-loop2 μ-loop2 Inv-loop μ-loop
+loop2-again c = (omega arith, part-put _ _ _ _ _ _ (omega arith) (omega arith) (omega arith) (omega arith) (c .less .ensures) (c .before .before .before .before .loop2 .inv .1))
+
+loop-again : tie.Need-loop-again Inv-loop2 μ-loop2 Inv-loop μ-loop
+loop-again c = (omega arith, part-row _ _ _ _ _ (omega arith) (omega arith) (c .before .loop2 .inv .1))
+
+returns : tie.Need-returns Inv-loop2 μ-loop2 Inv-loop μ-loop
+returns c = part-end _ _ _ _ _ (omega arith) (omega arith) (c .before .loop .inv .1)
+
+pub grower-shares-spec : {M : Type 1} → statement M
+grower-shares-spec =
+    tie.close
+    (tie.spec
+    Inv-loop2
+    μ-loop2
+    Inv-loop
+    μ-loop
+    (λ c κs. search needs)
+    loop-holds
+    loop2-holds
+    (λ c. search needs)
+    (λ c. search needs)
+    (λ c. search needs)
+    (λ c. search needs)
+    (λ c. search needs)
+    (λ c. search needs)
+    (λ c. search needs)
+    (λ c. search needs)
+    (λ c κs. search needs)
+    (λ c. search needs)
+    (λ c. search needs)
+    (λ c. search needs)
+    (λ c. search needs)
+    (λ c. search needs)
+    (λ c. search needs)
+    loop2-again
+    (λ c. search needs)
+    (λ c. search needs)
+    loop-again
+    returns)
