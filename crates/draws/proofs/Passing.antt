@@ -17,9 +17,10 @@ use Rattle.reader.specs.Walk.{Numbers, readHead}
 use Rattle.reader.specs.State.{start, must, first}
 use Rattle.reader.specs.Ticket.{placeField, dealField, partyFault, amountFault}
 use Rattle.reader.specs.Layout.{ticket}
-use Rattle.reader.specs.Answer.{packed, reply, kept}
+use Rattle.reader.specs.Answer.{packed, reply, Tells, kept}
 use Rattle.reader.proofs.WalkLaws.{Good, Accepted, accepts-form}
 use Rattle.reader.proofs.Undoing.{head-whole}
+use Rattle.reader.proofs.Telling.{tells, refuses}
 use Rattle.reader.proofs.Facts.{reply-with-room, reply-without-room, kept-without-room}
 use Rattle.reader.proofs.TicketLaws.{Stands, place-after}
 use Rattle.draws.specs.Generator as generator
@@ -137,10 +138,10 @@ module _ (n m x pairs : ℕ) (lent : List ℕ) (p : pairs ≡ n * m) where
 -- What drawing answers and leaves, and that it passes.
 abbrev pub Answers : ℕ → ℕ → ℕ → List ℕ → List ℕ → Reply → Type 0
 Answers seed n m lent after r =
-    (r ≡ reply (length lent) (drawn seed n m)) × ((after ≡ kept lent (drawn seed n m)) × Passes (drawn seed n m))
+    Tells r (length lent) (drawn seed n m) × ((after ≡ kept lent (drawn seed n m)) × Passes (drawn seed n m))
 
 pub out-of-range-answers : (seed n m : ℕ) (lent : List ℕ) → bothInRange n m ≡ false → Answers seed n m lent lent (Reply.Refused 5)
-out-of-range-answers seed n m lent e = rw e (refl, (refl, tt))
+out-of-range-answers seed n m lent e = rw e (refuses _ 5 refl, (refl, tt))
 
 pub both-in-range : (n m : ℕ) → bothInRange n m ≡ true → ((1 ≤ n) × (n ≤ 16)) × ((1 ≤ m) × (m ≤ 16))
 both-in-range n m e = let h = both-hold (inRange n) (inRange m) e in (range-holds n (h .0), range-holds m (h .1))
@@ -149,4 +150,4 @@ pub delivered-answers : (seed n m x : ℕ) (lent after : List ℕ) (r : Reply) �
     r ≡ reply (length lent) (Numbers (ticketFrom n m x)) → after ≡ kept lent (Numbers (ticketFrom n m x)) → Answers seed n m lent after r
 delivered-answers seed n m x lent after r e s d k =
     let h = both-in-range n m e in
-    rw (e, ← s) (d, (k, ticket-passes n m x (h .0 .0) (h .0 .1) (h .1 .0) (h .1 .1)))
+    rw (e, ← s) (tells r (length lent) (Numbers (ticketFrom n m x)) d, (k, ticket-passes n m x (h .0 .0) (h .0 .1) (h .1 .0) (h .1 .1)))

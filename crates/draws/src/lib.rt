@@ -8,7 +8,7 @@ ghost use Prim.Native.Nat.{_+_, _*_, _≤_};
 ghost use lib.ListN.{length};
 ghost use lib.Seq.{sets};
 ghost use Rattle.reader.specs.Walk.{Numbers};
-ghost use Rattle.reader.specs.Answer.{reply, kept};
+ghost use Rattle.reader.specs.Answer.{reply, Tells, kept};
 ghost use Rattle.draws.specs.Drawn.{ticketFrom, inRange, bothInRange, drawn, Passes};
 use filling::fill_hours;
 use filling::fill_pairs;
@@ -66,7 +66,7 @@ fn deliver(x: u32, growers: usize, pilots: usize, list: &mut [u16]) -> Reply
 
 // Draws a ticket of so many growers and pilots from a seed, and returns the count of its numbers.
 pub fn draw(seed: u64, growers: usize, pilots: usize, list: &mut [u16]) -> Reply
-    ensures { λ r. ⌜ r ≡ reply (length (now (list .entry))) (drawn seed growers pilots) ⌝ }
+    ensures { λ r. ⌜ Tells r (length (now (list .entry))) (drawn seed growers pilots) ⌝ }
     ensures { λ _. ⌜ now (list .exit) ≡ kept (now (list .entry)) (drawn seed growers pilots) ⌝ }
     ensures { λ _. ⌜ Passes (drawn seed growers pilots) ⌝ }
 {

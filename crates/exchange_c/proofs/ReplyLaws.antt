@@ -114,12 +114,12 @@ settle-small t lent after r same s = go (unpacked t) refl s
   where
     answers : (xs : List ℕ) → unpacked t ≡ Numbers xs → Answers xs lent after r → Small r
     answers xs e a = ⊎-elim
-        (λ h. rw (a .short h .0) tt)
-        (λ h. let d = a .settled h in rw (d .1) (omega (arith, settled-short t xs lent after (d .0) e same (d .2))))
+        (λ h. rw (a .short h .0 .reply) tt)
+        (λ h. let d = a .settled h in rw (d .1 .reply) (omega (arith, settled-short t xs lent after (d .0) e same (d .2))))
         (lt-or-le (length lent) (roomFor xs))
 
     go : (o : Outcome) → unpacked t ≡ o → Settled o lent after r → Small r
-    go (Refusal w) e s = rw (s .0) tt
+    go (Refusal w) e s = rw (s .0 .reply) tt
     go (Numbers xs) e s = answers xs e s
 
 pub sheet-small : (t lent after : List ℕ) (r : Reply) → Sheeted (unpacked t) lent after r → Small r

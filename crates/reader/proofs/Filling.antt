@@ -17,10 +17,11 @@ use Rattle.reader.specs.Groups.{Read, Number, Ends, TooLong, Padded, byt
 use Rattle.reader.specs.Walk.{Outcome, Refusal, Numbers, form}
 use Rattle.reader.specs.State.{start}
 use Rattle.reader.specs.Layout.{afterIn, formOf}
-use Rattle.reader.specs.Answer.{counted, reply, kept}
+use Rattle.reader.specs.Answer.{counted, Tells, kept}
 use Rattle.reader.specs.Steps.{placed, Gives, firstNumbers, Fillable}
 use Rattle.grid.proofs.Cases.{never}
 use Rattle.reader.proofs.Ends.{EndOf, end-trans, end-place}
+use Rattle.reader.proofs.Telling.{refuses, counts}
 use Rattle.reader.proofs.WalkLaws.{Good, form-accepts}
 use Rattle.reader.proofs.LayoutLaws.{number-small}
 use Rattle.reader.proofs.Running.{bytes-ending}
@@ -113,22 +114,25 @@ module _ {s lent list xs : List ℕ} {here k : ℕ} (r : Filling s lent list xs 
 
 -- The whole answer from that of the scan.
 pub reply-refused : (o : Outcome) (lent : List ℕ) (w : ℕ) → Reply.Refused w ≡ counted o →
-    (Reply.Refused w ≡ reply (length lent) o) × (lent ≡ kept lent o)
-reply-refused (Refusal v) lent w e = (e, refl)
+    Tells (Reply.Refused w) (length lent) o × (lent ≡ kept lent o)
+reply-refused (Refusal v) lent w e = (refuses _ v e, refl)
 reply-refused (Numbers xs) lent w e = never cc
 
 pub reply-short : (o : Outcome) (lent : List ℕ) (k : ℕ) → Reply.Done k ≡ counted o → length lent < k →
-    (Reply.Refused noRoom ≡ reply (length lent) o) × (lent ≡ kept lent o)
+    Tells (Reply.Refused noRoom) (length lent) o × (lent ≡ kept lent o)
 reply-short (Refusal v) lent k e h = never cc
-reply-short (Numbers xs) lent k e h = let n : k ≡ length xs = cc in let l = lt-leb (length xs) (length lent) (omega arith) in (rw l, rw l)
+reply-short (Numbers xs) lent k e h =
+    let n : k ≡ length xs = cc in
+    let l = lt-leb (length xs) (length lent) (omega arith) in
+    (rw l (refuses _ noRoom refl), rw l)
 
 pub reply-done : (o : Outcome) (lent list : List ℕ) (k : ℕ) → Reply.Done k ≡ counted o → k ≤ length lent → list ≡ sets lent 0 (listed o) →
-    (Reply.Done k ≡ reply (length lent) o) × (list ≡ kept lent o)
+    Tells (Reply.Done k) (length lent) o × (list ≡ kept lent o)
 reply-done (Refusal v) lent list k e h f = never cc
 reply-done (Numbers xs) lent list k e h f =
-    let n : k ≡ length xs = cc in let l = le-leb (length xs) (length lent) (omega arith) in (rw l e, rw l f)
+    let n : k ≡ length xs = cc in let l = le-leb (length xs) (length lent) (omega arith) in (rw l (counts _ (length xs) e), rw l f)
 
 pub reply-filled : (p : Document) (s lent list : List ℕ) (k : ℕ) → Reply.Done k ≡ counted (form (formOf p) bytes s) → k ≤ length lent →
     list ≡ sets lent 0 (firstNumbers k s) →
-    (Reply.Done k ≡ reply (length lent) (form (formOf p) bytes s)) × (list ≡ kept lent (form (formOf p) bytes s))
+    Tells (Reply.Done k) (length lent) (form (formOf p) bytes s) × (list ≡ kept lent (form (formOf p) bytes s))
 reply-filled p s lent list k e h f = reply-done (form (formOf p) bytes s) lent list k e h (f ∙ ap (sets lent 0) (scanned-fills p s k e .1))

@@ -1,5 +1,6 @@
--- The laws of `reader`, each file over those above it. Other crates cite `Facts`.
+-- The laws of `reader`, each file over those above it. Other crates cite `Telling` and `Facts`.
 pub mod Ends
+pub mod Telling
 pub mod GroupLaws
 pub mod WalkLaws
 pub mod Undoing

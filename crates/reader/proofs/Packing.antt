@@ -16,9 +16,10 @@ use Rattle.reader.specs.Groups.{encode, groups, pack}
 use Rattle.reader.specs.Walk.{Outcome, Refusal, Numbers, readHead, final, form}
 use Rattle.reader.specs.State.{start}
 use Rattle.reader.specs.Layout.{formOf}
-use Rattle.reader.specs.Answer.{packedAs, counted, reply, kept}
+use Rattle.reader.specs.Answer.{packedAs, counted, Tells, kept}
 use Rattle.reader.specs.Steps.{mostBytes}
 use Rattle.grid.proofs.Cases.{never}
+use Rattle.reader.proofs.Telling.{refuses, counts}
 use Rattle.reader.proofs.WalkLaws.{Accepted, good-take, form-accepts}
 use Rattle.reader.proofs.Undoing.{packed-unpacks}
 use Rattle.reader.proofs.LayoutLaws.{number-small, start-known, known-final, body-few, good-short}
@@ -119,17 +120,17 @@ summing-ends list k total r h = omega (arith, rw (drop-of-length-le list h) at (
 
 -- The whole answer from that of the check.
 abbrev pub Answers : List ℕ → Outcome → Reply → List ℕ → Type 0
-Answers lent o r out = (r ≡ reply (length lent) (packedAs o)) × (out ≡ kept lent (packedAs o))
+Answers lent o r out = Tells r (length lent) (packedAs o) × (out ≡ kept lent (packedAs o))
 
 pub pack-refused : (o : Outcome) (lent : List ℕ) (w : ℕ) → Reply.Refused w ≡ counted o → Answers lent o (Reply.Refused w) lent
-pack-refused (Refusal v) lent w e = (e, refl)
+pack-refused (Refusal v) lent w e = (refuses _ v e, refl)
 pack-refused (Numbers xs) lent w e = never cc
 
 pub pack-short : (p : Document) (list lent : List ℕ) → Packs p list → length lent < length (pack list) →
     Answers lent (form (formOf p) readHead list) (Reply.Refused noRoom) lent
-pack-short p list lent a h = let l = lt-leb (length (pack list)) (length lent) h in rw (a .same) (rw l, rw l)
+pack-short p list lent a h = let l = lt-leb (length (pack list)) (length lent) h in rw (a .same) (rw l (refuses _ noRoom refl), rw l)
 
 pub pack-done : (p : Document) (list lent out : List ℕ) (n : ℕ) → Packs p list → n ≡ length (pack list) → n ≤ length lent →
     out ≡ sets lent 0 (pack list) → Answers lent (form (formOf p) readHead list) (Reply.Done n) out
 pack-done p list lent out n a e h f =
-    let l = le-leb (length (pack list)) (length lent) (omega arith) in rw (a .same) (rw l (ap Reply.Done e), rw l f)
+    let l = le-leb (length (pack list)) (length lent) (omega arith) in rw (a .same) (rw l (counts _ _ (ap Reply.Done e)), rw l f)

@@ -10,6 +10,7 @@ use Rattle.reader.specs.Refusals.{noRoom}
 use Rattle.reader.specs.Groups.{bytes, pack}
 use Rattle.reader.specs.Walk.{Outcome, Refusal, Numbers, readHead, form}
 use Rattle.reader.specs.Layout.{ticket, settlement}
+use Rattle.reader.specs.Values.{Values, refusedWith, doneWith, Replied}
 
 -- A ticket's bytes as numbers.
 abbrev pub unpacked : List ℕ → Outcome
@@ -40,6 +41,15 @@ counted (Numbers xs) = Reply.Done (length xs)
 abbrev pub reply : ℕ → Outcome → Reply
 reply room (Refusal w) = Reply.Refused w
 reply room (Numbers xs) = cond (leb (length xs) room) (Reply.Done (length xs)) (Reply.Refused noRoom)
+
+-- The same on paper.
+abbrev pub replyOnPaper : ℕ → Outcome → Values
+replyOnPaper room (Refusal w) = refusedWith w
+replyOnPaper room (Numbers xs) = cond (leb (length xs) room) (doneWith (length xs)) (refusedWith noRoom)
+
+-- The reply tells the outcome, in code and on paper.
+abbrev pub Tells : Reply → ℕ → Outcome → Type 0
+Tells r room o = Replied r (reply room o) (replyOnPaper room o)
 
 -- The lent list after it: as it was, or with the numbers at its front.
 abbrev pub kept : List ℕ → Outcome → List ℕ

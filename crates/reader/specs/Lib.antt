@@ -6,5 +6,6 @@ pub mod State
 pub mod Ticket
 pub mod Settlement
 pub mod Layout
+pub mod Values
 pub mod Answer
 pub mod Steps

@@ -7,7 +7,7 @@ ghost use Rattle.reader.specs.Groups.{bytes, pack};
 ghost use Rattle.reader.specs.Walk.{readHead, form};
 ghost use Rattle.reader.specs.Layout.{formOf};
 ghost use Rattle.reader.specs.Steps.{mostBytes, firstNumbers, Fillable};
-ghost use Rattle.reader.specs.Answer.{packedAs, reply, kept};
+ghost use Rattle.reader.specs.Answer.{packedAs, Tells, kept};
 use crate::Reply;
 use crate::groups::Got;
 use crate::groups::number;
@@ -61,7 +61,7 @@ fn write_all(list: &[u16], out: &mut [u8])
 
 // A document's bytes into a lent list.
 pub(crate) fn receive(document: Document, s: &[u8], list: &mut [u16]) -> Reply
-    ensures { λ r. ⌜ r ≡ reply (length (now (list .entry))) (form (formOf document) bytes (now (s .entry))) ⌝ }
+    ensures { λ r. ⌜ Tells r (length (now (list .entry))) (form (formOf document) bytes (now (s .entry))) ⌝ }
     ensures { λ r. ⌜ now (list .exit) ≡ kept (now (list .entry)) (form (formOf document) bytes (now (s .entry))) ⌝ }
 {
     let seen = scan(document, SourceKind::Bytes, s, list);
@@ -79,7 +79,7 @@ pub(crate) fn receive(document: Document, s: &[u8], list: &mut [u16]) -> Reply
 
 // A document's list into a lent buffer.
 pub(crate) fn deliver(document: Document, list: &[u16], out: &mut [u8]) -> Reply
-    ensures { λ r. ⌜ r ≡ reply (length (now (out .entry))) (packedAs (form (formOf document) readHead (now (list .entry)))) ⌝ }
+    ensures { λ r. ⌜ Tells r (length (now (out .entry))) (packedAs (form (formOf document) readHead (now (list .entry)))) ⌝ }
     ensures { λ r. ⌜ now (out .exit) ≡ kept (now (out .entry)) (packedAs (form (formOf document) readHead (now (list .entry)))) ⌝ }
 {
     let seen = scan(document, SourceKind::List, out, list);

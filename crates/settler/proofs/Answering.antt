@@ -13,6 +13,7 @@ use Rattle.reader.specs.Walk.{Numbers}
 use Rattle.reader.specs.Answer.{unpacked, settlementRead, settlementPacked, reply, kept}
 use Rattle.reader.proofs.Facts.{unpacked-shape, settlement-accepted, settlement-bytes, reply-with-room, kept-with-room}
 use Rattle.reader.proofs.Facts.{reply-refused}
+use Rattle.reader.proofs.Telling.{refuses, counts}
 use Rattle.tables.specs.View.{growersOf, pilotsOf}
 use Rattle.marker.specs.declared.Verdict.{Verdict}
 use Rattle.marker.specs.Marked.{marked}
@@ -21,7 +22,7 @@ use Rattle.settler.specs.Settled.{roomFor, SettledIn, Answers, Settled}
 use Rattle.settler.specs.FromList.{IsTicket, settlementCount, SoundFront}
 
 pub short-answers : (xs lent : List ℕ) → length lent < roomFor xs → Answers xs lent lent (Reply.Refused noRoom)
-short-answers xs lent h = record { short = λ _. (refl, refl); settled = λ l. absurd (omega arith) }
+short-answers xs lent h = record { short = λ _. (refuses _ noRoom refl, refl); settled = λ l. absurd (omega arith) }
 
 module _ (xs list lent after : List ℕ) (r : Reply) (is : IsTicket xs) (f : SoundFront xs list) (room : roomFor xs ≤ length lent)
     (answered : r ≡ reply (length lent) (settlementPacked (growersOf xs) (pilotsOf xs) (take (settlementCount xs) list)))
@@ -59,7 +60,7 @@ module _ (xs list lent after : List ℕ) (r : Reply) (is : IsTicket xs) (f : Sou
     short = λ h. absurd (omega arith);
     settled = λ _. (
       length (pack numbers),
-      answered ∙ ap (reply (length lent)) packs ∙ reply-with-room (length lent) (pack numbers) few,
+      counts r _ (answered ∙ ap (reply (length lent)) packs ∙ reply-with-room (length lent) (pack numbers) few),
       settled-in,
     );
   }
@@ -88,7 +89,7 @@ room-answers xs lent growers pilots pairs eg ep e h =
 pub refused-settles : (s zeros lent : List ℕ) (w : ℕ) → length zeros ≡ 1315 → Reply.Refused w ≡ reply (length zeros) (unpacked s) →
     Settled (unpacked s) lent lent (Reply.Refused w)
 refused-settles s zeros lent w long e =
-    rw (reply-refused (length zeros) (unpacked s) w (λ xs f. omega (arith, unpacked-shape s xs f .few, long)) e) (refl, refl)
+    rw (reply-refused (length zeros) (unpacked s) w (λ xs f. omega (arith, unpacked-shape s xs f .few, long)) e) (refuses _ w refl, refl)
 
 pub answers-settle : (s list lent after : List ℕ) (r : Reply) → unpacked s ≡ Numbers list → Answers list lent after r →
     Settled (unpacked s) lent after r

@@ -8,6 +8,7 @@ use lib.ListN.{length, take, drop}
 use Rattle.reader.specs.declared.Reply.{Reply}
 use Rattle.reader.specs.Refusals.{noRoom}
 use Rattle.reader.specs.Walk.{Outcome, Refusal, Numbers}
+use Rattle.reader.specs.Values.{Refuses, Counts}
 use Rattle.reader.specs.Answer.{settlementRead}
 use Rattle.market.specs.Market.{Sound, NobodyGains}
 use Rattle.tables.specs.View.{growersOf, pilotsOf, ticketOf, settlementOf}
@@ -32,10 +33,10 @@ roomFor xs = 3 + 4 * (growersOf xs * pilotsOf xs)
 
 -- An answer to the ticket xs: a lack of room exactly when the buffer is too short, else a sound settlement.
 pub record Answers (xs lent after : List ℕ) (r : Reply) : Type 0 where
-  pub short : length lent < roomFor xs → (r ≡ Reply.Refused noRoom) × (after ≡ lent)
-  pub settled : roomFor xs ≤ length lent → (count : ℕ) × (r ≡ Reply.Done count) × SettledIn xs lent after count
+  pub short : length lent < roomFor xs → Refuses r noRoom × (after ≡ lent)
+  pub settled : roomFor xs ≤ length lent → (count : ℕ) × Counts r count × SettledIn xs lent after count
 
 -- An answer to a ticket's bytes: what unpacking refuses is refused with the same number.
 abbrev pub Settled : Outcome → List ℕ → List ℕ → Reply → Type 0
-Settled (Refusal w) lent after r = (r ≡ Reply.Refused w) × (after ≡ lent)
+Settled (Refusal w) lent after r = Refuses r w × (after ≡ lent)
 Settled (Numbers xs) lent after r = Answers xs lent after r

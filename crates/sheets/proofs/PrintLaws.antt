@@ -12,6 +12,7 @@ use Rattle.grid.proofs.Places.{prod-small}
 use Rattle.reader.specs.declared.Reply.{Reply}
 use Rattle.reader.specs.Refusals.{noRoom}
 use Rattle.reader.specs.Walk.{Outcome, Refusal, Numbers}
+use Rattle.reader.specs.Values.{Counts}
 use Rattle.reader.specs.Answer.{unpacked, settlementRead, reply}
 use Rattle.reader.proofs.Facts.{unpacked-shape, settlement-shape, settlement-few, reply-with-room, reply-without-room, reply-refused}
 use Rattle.reader.proofs.Facts.{kept-with-room, kept-without-room, written-front}
@@ -75,18 +76,18 @@ module _ {ticket xs file : List ℕ} (f : SoundFile ticket xs file) (n m : ℕ) 
 -- The ticket is settled: no refusal, and what was written is the file of a sound settlement.
 module _ (ticket xs lent after : List ℕ) (r : Reply) (e : unpacked ticket ≡ Numbers xs) (long : length lent ≡ 1027)
     (s : Settled (unpacked ticket) lent after r) where
-  settles : (count : ℕ) × (r ≡ Reply.Done count) × SettledIn xs lent after count
+  settles : (count : ℕ) × Counts r count × SettledIn xs lent after count
   settles =
       let a = rw e at s in
       let h = unpacked-shape ticket xs e in
       a .settled (omega (arith, long, prod-small (growersOf xs) (pilotsOf xs) (h .growers .1) (h .pilots .1)))
 
   pub settle-not-refused : {A : Type 0} (w : ℕ) → r ≡ Reply.Refused w → A
-  settle-not-refused w f = let d = settles .1 in never cc
+  settle-not-refused w f = let d = settles .1 .reply in never cc
 
   module _ (count : ℕ) (f : r ≡ Reply.Done count) where
     same-count : settles .0 ≡ count
-    same-count = let d = settles .1 in cc
+    same-count = let d = settles .1 .reply in cc
 
     inside : SettledIn xs lent after count
     inside = rw same-count at (settles .2)

@@ -12,8 +12,9 @@ use lib.Seq.{sets, take-at}
 use Rattle.reader.specs.declared.Reply.{Reply}
 use Rattle.reader.specs.Refusals.{noRoom}
 use Rattle.reader.specs.Walk.{Numbers}
-use Rattle.reader.specs.Answer.{reply, kept}
+use Rattle.reader.specs.Answer.{Tells, kept}
 use Rattle.reader.proofs.Facts.{reply-with-room, reply-without-room, kept-without-room, written-front}
+use Rattle.reader.proofs.Telling.{tells}
 use Rattle.marker.specs.declared.Verdict.{Verdict}
 use Rattle.marker.specs.Marked.{marked}
 use Rattle.sheets.specs.Lines.{line}
@@ -67,19 +68,19 @@ module _ (v : Values) {blank page : List ℕ} {end : ℕ} (w : Wrote blank page 
     text-is = rw (has, is)
 
     pub told-short : length lent < end →
-        (Reply.Refused noRoom ≡ reply (length lent) (Numbers (markLine (marked t s)))) × (lent ≡ kept lent (Numbers (markLine (marked t s))))
+        Tells (Reply.Refused noRoom) (length lent) (Numbers (markLine (marked t s))) × (lent ≡ kept lent (Numbers (markLine (marked t s))))
     told-short h =
         rw (← text-is) (
-          sym (reply-without-room (length lent) (lineOf v) (omega (arith, w .ends))),
+          tells _ (length lent) (Numbers (lineOf v)) (sym (reply-without-room (length lent) (lineOf v) (omega (arith, w .ends)))),
           sym (kept-without-room lent (lineOf v) (omega (arith, w .ends))),
         )
 
     pub told-copied : (after : List ℕ) (place : ℕ) → end ≤ length lent → Wrote lent after 0 place (take end page) →
-        (Reply.Done end ≡ reply (length lent) (Numbers (markLine (marked t s)))) × (after ≡ kept lent (Numbers (markLine (marked t s))))
+        Tells (Reply.Done end) (length lent) (Numbers (markLine (marked t s))) × (after ≡ kept lent (Numbers (markLine (marked t s))))
     told-copied after place h c =
         let fits : length (lineOf v) ≤ length lent = omega (arith, w .ends) in
         let e : end ≡ length (lineOf v) = omega (arith, w .ends) in
         rw (← text-is) (
-          ap Reply.Done e ∙ sym (reply-with-room (length lent) (lineOf v) fits),
+          tells _ (length lent) (Numbers (lineOf v)) (ap Reply.Done e ∙ sym (reply-with-room (length lent) (lineOf v) fits)),
           rw (le-leb (length (lineOf v)) (length lent) fits) (c .stored ∙ ap (sets lent 0) front-is),
         )

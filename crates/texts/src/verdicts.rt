@@ -3,7 +3,7 @@ ghost use mathlib.Core.Path.{_≡_};
 ghost use Prim.Native.Nat.{_+_, _<_, _≤_};
 ghost use lib.ListN.{length};
 ghost use Rattle.reader.specs.Walk.{Numbers};
-ghost use Rattle.reader.specs.Answer.{reply, kept};
+ghost use Rattle.reader.specs.Answer.{Tells, kept};
 ghost use Rattle.marker.specs.Marked.{marked};
 ghost use Rattle.sheets.specs.Decimal.{decimal};
 ghost use Rattle.sheets.specs.Writing.{Wrote};
@@ -164,7 +164,7 @@ fn tell(line: &mut [u8], values: Values) -> usize
 
 // Marks a settlement against a ticket, both as the bytes of files, and writes the answer's line at the front of a lent buffer.
 pub fn mark_line(ticket: &[u8], settlement: &[u8], text: &mut [u8]) -> Reply
-    ensures { λ r. ⌜ r ≡ reply (length (now (text .entry))) (Numbers (markLine (marked (now (ticket .entry)) (now (settlement .entry))))) ⌝ }
+    ensures { λ r. ⌜ Tells r (length (now (text .entry))) (Numbers (markLine (marked (now (ticket .entry)) (now (settlement .entry))))) ⌝ }
     ensures { λ r. ⌜ now (text .exit) ≡ kept (now (text .entry)) (Numbers (markLine (marked (now (ticket .entry)) (now (settlement .entry))))) ⌝ }
 {
     let mut line = blank();

@@ -24,7 +24,7 @@ answer : (c : tie.After-front) → settlementRead (c .before .before .before .be
     ≡ Numbers (c .front .result .now)
 answer c =
     let u = c .before .before .before .before .before .before .read-settlement in
-    answer-is _ _ _ _ _ _ (sym (c .before .before .before .reply2 .given .1) ∙ u .ensures .0) (rw (u .ensures .1) at (c .front .ensures))
+    answer-is _ _ _ _ _ _ (sym (c .before .before .before .reply2 .given .1) ∙ u .ensures .0 .reply) (rw (u .ensures .1) at (c .front .ensures))
 
 judge-requires : tie.Need-judge-requires
 judge-requires c κs =
@@ -38,7 +38,7 @@ returns c =
     let few = q .before .before .before .before .before .before .pre in
     refused-answer (q .before .before .before .before .before .before .args .ticket .now) _ (c .before .before .before .before .before .before .settlement-list .result) _ _ _ (growers-are q) (pilots-are q)
     (omega (arith, growers-are q, few)) (omega (arith, pilots-are q, few))
-    (c .before .before .before .before .before .before .settlement-list .ensures .1) (sym (c .before .reply .given .1) ∙ c .before .before .before .before .read-settlement .ensures .0)
+    (c .before .before .before .before .before .before .settlement-list .ensures .1) (sym (c .before .reply .given .1) ∙ c .before .before .before .before .read-settlement .ensures .0 .reply)
 
 returns-2 : tie.Need-returns-2
 returns-2 c =

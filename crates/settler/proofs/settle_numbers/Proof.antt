@@ -39,7 +39,7 @@ returns-2 c =
     written-answers _ (c .before .before .before .before .before .before .sound-list .result) _ _ _ _ _ _ _
     (q .before .before .before .before .before .before .pre) (c .before .before .before .before .before .before .sound-list .ensures)
     (growers-are q) (pilots-are q) (all (c .before .before .before .before .before .before .before .before))
-    (c .before .before .before .before .front .ensures) (c .before .before .before .before .before .before .before .if1 .left) (w .ensures .0) (w .ensures .1)
+    (c .before .before .before .before .front .ensures) (c .before .before .before .before .before .before .before .if1 .left) (w .ensures .0 .reply) (w .ensures .1)
 
 pub settle-numbers-spec : {M : Type 1} → statement M
 settle-numbers-spec =

@@ -13,7 +13,7 @@ use Rattle.sheets.proofs.print.Tie as tie
 numbers-are : (c : tie.After-front) → unpacked (c .before .before .before .before .before .before .before .before .before .before .before .args .ticket .now) ≡ Numbers (c .front .result .now)
 numbers-are c =
     let u = c .before .before .before .before .before .before .before .unpack in
-    unpacked-is _ _ _ _ (sym (c .before .before .before .before .reply2 .given .1) ∙ u .ensures .0) (rw (u .ensures .1) at (c .front .ensures))
+    unpacked-is _ _ _ _ (sym (c .before .before .before .before .reply2 .given .1) ∙ u .ensures .0 .reply) (rw (u .ensures .1) at (c .front .ensures))
 
 print-settled-requires : tie.Need-print-settled-requires
 print-settled-requires c κs = numbers-are c
@@ -21,7 +21,7 @@ print-settled-requires c κs = numbers-are c
 returns : tie.Need-returns
 returns c =
     let z = c .before .before .before .before .before .before .before .before .before .ticket-list in
-    printed-refused _ (z .result) _ _ _ _ (z .ensures .1) (sym (c .before .before .before .before .reply .given .1) ∙ c .before .before .before .before .before .before .before .unpack .ensures .0) (c .counted .ensures)
+    printed-refused _ (z .result) _ _ _ _ (z .ensures .1) (sym (c .before .before .before .before .reply .given .1) ∙ c .before .before .before .before .before .before .before .unpack .ensures .0 .reply) (c .counted .ensures)
 
 returns-2 : tie.Need-returns-2
 returns-2 c = printed-unpacked _ _ _ _ _ (numbers-are (c .before)) (c .print-settled .ensures)

@@ -21,7 +21,7 @@ pilots-are c = c .index2 .ensures .0 ∙ c .before .entry2 .ensures
 read : (c : tie.After-front) → settlementRead (c .before .before .before .before .before .before .before .before .before .before .before .before .index .result) (c .before .before .before .before .before .before .before .before .before .before .index2 .result) (c .before .before .before .before .before .before .before .before .before .before .before .before .before .before .before .before .before .args .file .now) ≡ Numbers (c .front .result .now)
 read c =
     let u = c .before .before .before .before .before .before .before .read-settlement in
-    answer-is _ _ _ _ _ _ (sym (c .before .before .before .before .reply .given .1) ∙ u .ensures .0) (rw (u .ensures .1) at (c .front .ensures))
+    answer-is _ _ _ _ _ _ (sym (c .before .before .before .before .reply .given .1) ∙ u .ensures .0 .reply) (rw (u .ensures .1) at (c .front .ensures))
 
 settled-text-requires : tie.Need-settled-text-requires
 settled-text-requires c κs =
@@ -32,7 +32,7 @@ returns : tie.Need-returns
 returns c =
     let q = c .before .before .before .before .before .before in
     let z = c .before .before .before .before .before .settlement-list in
-    file-not-refused (q .before .before .before .before .before .before .before .pre) _ _ (growers-are q) (pilots-are q) (z .result) _ (z .ensures .1) (sym (c .enum-told .given .1) ∙ c .before .before .before .read-settlement .ensures .0)
+    file-not-refused (q .before .before .before .before .before .before .before .pre) _ _ (growers-are q) (pilots-are q) (z .result) _ (z .ensures .1) (sym (c .enum-told .given .1) ∙ c .before .before .before .read-settlement .ensures .0 .reply)
 
 returns-2 : tie.Need-returns-2
 returns-2 c =
