@@ -90,8 +90,9 @@ uint32_t exchange_settle(const uint8_t *ticket, size_t ticket_length,
 /*
  * Writes a ticket's sheet: the ticket settled, as lines of text, or `REFUSED` and
  * a number from 1 to 9 for a file that is no ticket. Returns its length in bytes;
- * no zero byte is written after it. The only refusal is 10: the buffer is shorter
- * than the text.
+ * no zero byte is written after it. The only refusal is 10: the buffer has fewer
+ * than 24 + 32nm bytes for n growers and m pilots, though the sheet itself may be
+ * shorter; or it is shorter than the text of a refusal.
  */
 uint32_t exchange_sheet(const uint8_t *ticket, size_t ticket_length,
                         uint8_t *text, size_t text_length);

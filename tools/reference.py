@@ -336,17 +336,6 @@ def settled(data, room, answer):
     return reply(lambda: written, room, hex_byte) + verdict_line(lambda: verdict)
 
 
-def sound_sheets(ticket):
-    """Every sheet that a ticket may have: for the smallest tickets alone, since it tries all settlements."""
-    ranges = []
-    for tariff_cap, _, _, free_cap, c in ticket.terms.values():
-        ranges += [range(tariff_cap + 1), range(free_cap + 1), range(c + 1)]
-    for row in itertools.product(*ranges):
-        settlement = Settlement(ticket, [2, ticket.n, ticket.m, *row])
-        if settlement.verdict()[0] == 1:
-            yield settlement.sheet()
-
-
 def shown_settlement(ticket, text):
     """The settlement that a sheet shows, if it is laid out as a sheet of this ticket."""
     rows = {pair: [0, 0, 0] for pair in ticket.pairs}
@@ -362,10 +351,11 @@ def sheet(data, room, answer):
         ticket = Ticket(unpack(data))
     except Refused as refusal:
         return text_reply("REFUSED %d\n" % refusal.why, room)
-    if answer == no_room(room):
-        fits = all(len(text) <= room for text in sound_sheets(ticket))
-        return wrong("every sheet of this ticket fits") if fits else answer
-    text = answer.partition("\n")[2]
+    if room < 24 + 32 * ticket.n * ticket.m:
+        return no_room(room)
+    head, _, text = answer.partition("\n")
+    if not head.startswith("  done "):
+        return wrong("the ticket can be settled")
     try:
         settlement = shown_settlement(ticket, text)
     except (ValueError, KeyError):

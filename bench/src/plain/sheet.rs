@@ -10,17 +10,32 @@ use super::{Refusal, copy_to_front};
 
 /// Writes the sheet of a ticket at the front of a lent buffer, and returns its length. A refused ticket has one too.
 pub fn sheet(ticket: &[u8], text: &mut [u8]) -> Result<usize, Refusal> {
-    copy_to_front(sheet_text(ticket).as_bytes(), text)
+    let ticket = match Ticket::read(ticket) {
+        Err(refusal) => return copy_to_front(refused_text(refusal).as_bytes(), text),
+        Ok(ticket) => ticket,
+    };
+    if text.len() < settled_room(&ticket) {
+        return Err(Refusal::NoRoom);
+    }
+    let (settlement, _) = settle_ticket(&ticket, Rises::Jumps);
+    copy_to_front(settled_text(&ticket, &settlement).as_bytes(), text)
 }
 
-pub fn sheet_text(ticket: &[u8]) -> String {
+/// The length that the buffer must have.
+pub fn room_needed(ticket: &[u8]) -> usize {
     match Ticket::read(ticket) {
-        Err(refusal) => format!("REFUSED {}\n", refusal as u8),
-        Ok(ticket) => {
-            let (settlement, _) = settle_ticket(&ticket, Rises::Jumps);
-            settled_text(&ticket, &settlement)
-        }
+        Err(refusal) => refused_text(refusal).len(),
+        Ok(ticket) => settled_room(&ticket),
     }
+}
+
+/// Room for the longest sheet that the ticket could have.
+fn settled_room(ticket: &Ticket) -> usize {
+    24 + 32 * ticket.pairs()
+}
+
+fn refused_text(refusal: Refusal) -> String {
+    format!("REFUSED {}\n", refusal as u8)
 }
 
 fn settled_text(ticket: &Ticket, settlement: &Settlement) -> String {

@@ -1,7 +1,7 @@
 use exchange_bench::draw::damage::damaged_file;
 use exchange_bench::draw::generator::Generator;
 use exchange_bench::draw::tickets::any_ticket;
-use exchange_bench::plain::sheet::{sheet, sheet_text};
+use exchange_bench::plain::sheet::{room_needed, sheet};
 use exchange_bench::plain::ticket::Ticket;
 use exchange_bench::proved;
 
@@ -18,7 +18,7 @@ fn sheet_agrees() {
         let numbers = any_ticket(&mut generator).numbers();
         let (damage, bytes) = damaged_file(&mut generator, &numbers);
         let room = generator.one_of(&Room::ALL);
-        let length = room.length(&mut generator, sheet_text(&bytes).len());
+        let length = room.length(&mut generator, room_needed(&bytes));
         let answer = same_answer(
             length,
             |text| proved::sheet(&bytes, text),

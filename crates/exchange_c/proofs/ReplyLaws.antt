@@ -27,8 +27,8 @@ use Rattle.reader.proofs.TicketLaws.{shape}
 use Rattle.reader.proofs.Facts.{unpacked-shape, settlement-shape}
 use Rattle.tables.specs.View.{growersOf, pilotsOf}
 use Rattle.settler.specs.Settled.{SettledIn, Answers, Settled, roomFor}
-use Rattle.sheets.specs.Sheeted.{Sheeted}
-use Rattle.sheets.proofs.PrintLaws.{text-short}
+use Rattle.sheets.specs.Sheeted.{roomForSheet, Sheeted}
+use Rattle.sheets.proofs.PrintLaws.{sheet-short, room-in-page}
 use Rattle.exchange_c.specs.Replies.{replyNumber, replyOf, Small, NumberOf}
 
 -- A small count fits the number.
@@ -123,9 +123,11 @@ settle-small t lent after r same s = go (unpacked t) refl s
     go (Numbers xs) e s = answers xs e s
 
 pub sheet-small : (t lent after : List ℕ) (r : Reply) → Sheeted (unpacked t) lent after r → Small r
-sheet-small t lent after r s =
-    rw (s .answer) (reply-small (length lent) (Numbers (s .text))
-    (λ xs e. let d : s .text ≡ xs = cc in omega (arith, ap length d, text-short t (unpacked t) (s .text) refl (s .sheet))))
+sheet-small t lent after r s = ⊎-elim
+    (λ h. rw (s .short h .0 .reply) tt)
+    (λ h. let d = s .printed h in
+    rw (d .answer .reply) (omega (arith, sheet-short (unpacked t) (d .text) (d .sheet), room-in-page t (unpacked t) refl)))
+    (lt-or-le (length lent) (roomForSheet (unpacked t)))
 
 -- Nothing is lost: the number that C gets tells the reply.
 pub unpack-told : (room : ℕ) (s : List ℕ) → replyOf (replyNumber (reply room (unpacked s))) ≡ reply room (unpacked s)

@@ -14,8 +14,8 @@ use Rattle.reader.specs.Refusals.{noRoom}
 use Rattle.reader.specs.Walk.{Outcome, Refusal, Numbers}
 use Rattle.reader.specs.Values.{Counts}
 use Rattle.reader.specs.Answer.{unpacked, settlementRead, reply}
-use Rattle.reader.proofs.Facts.{unpacked-shape, settlement-shape, settlement-few, reply-with-room, reply-without-room, reply-refused}
-use Rattle.reader.proofs.Facts.{kept-with-room, kept-without-room, written-front}
+use Rattle.reader.proofs.Telling.{refuses, counts}
+use Rattle.reader.proofs.Facts.{unpacked-shape, settlement-shape, settlement-few, reply-with-room, reply-refused, written-front}
 use Rattle.marker.specs.declared.Verdict.{Verdict}
 use Rattle.tables.specs.View.{growersOf, pilotsOf, ticketOf, settlementOf}
 use Rattle.marker.specs.Verdict.{judged, verdictCount}
@@ -23,22 +23,36 @@ use Rattle.marker.specs.Marked.{marked}
 use Rattle.settler.specs.Settled.{SettledIn, Settled}
 use Rattle.sheets.specs.Writing.{pageBytes, Wrote}
 use Rattle.sheets.specs.Sheet.{headOf, linesOf, lastOf, sheetText, refusedText}
-use Rattle.sheets.specs.Sheeted.{IsSheet, Sheeted}
+use Rattle.sheets.specs.Sheeted.{IsSheet, roomForSheet, SheetIn, Sheeted}
 use Rattle.sheets.specs.Printing.{Settles, Together, SoundFile, Printed}
 use Rattle.sheets.proofs.LineLaws.{line-short}
 use Rattle.sheets.proofs.SheetLaws.{lines-short, few-growers, few-pilots, all-deals-marked, all-deals-judged}
 
--- Every sheet fits a page.
-sheet-short : {ticket xs file ys : List ℕ} → Settles ticket xs file ys → length (sheetText xs ys) ≤ pageBytes
-sheet-short {ticket} {xs} {file} {ys} s =
+-- No sheet is longer than the room that is asked for it.
+settled-short : (xs ys : List ℕ) → length (sheetText xs ys) ≤ roomForSheet (Numbers xs)
+settled-short xs ys =
     omega (
       arith,
       length-append (headOf xs ++ linesOf xs ys) (lastOf xs ys),
       length-append (headOf xs) (linesOf xs ys),
       line-short (growersOf xs ∷ pilotsOf xs ∷ []),
       line-short (verdictCount (judged (ticketOf xs) (settlementOf ys)) ∷ []),
-      lines-short s,
+      lines-short xs ys,
     )
+
+pub sheet-short : (o : Outcome) (text : List ℕ) → IsSheet o text → length text ≤ roomForSheet o
+sheet-short (Refusal w) text i = omega (arith, ap length i)
+sheet-short (Numbers xs) text i = omega (arith, ap length (i .same), settled-short xs (i .numbers))
+
+-- A page has that room for every ticket.
+pub refusal-in-page : (w : ℕ) → roomForSheet (Refusal w) ≤ pageBytes
+refusal-in-page w = omega (arith, line-short (w ∷ []))
+
+pub room-in-page : (ticket : List ℕ) (o : Outcome) → unpacked ticket ≡ o → roomForSheet o ≤ pageBytes
+room-in-page ticket (Refusal w) e = refusal-in-page w
+room-in-page ticket (Numbers xs) e =
+    let h = unpacked-shape ticket xs e in
+    omega (arith, prod-small (growersOf xs) (pilotsOf xs) (h .growers .1) (h .pilots .1))
 
 -- The settlement's file is read: no refusal, and the list is that of the sound settlement.
 module _ {ticket xs file : List ℕ} (f : SoundFile ticket xs file) (n m : ℕ) (en : n ≡ growersOf xs) (em : m ≡ pilotsOf xs) where
@@ -70,7 +84,6 @@ module _ {ticket xs file : List ℕ} (f : SoundFile ticket xs file) (n m : ℕ) 
       text = sheetText xs list;
       sheet = record { file = file; numbers = list; read = list-settles .read; good = list-settles .good; same = refl };
       wrote = w;
-      short = sheet-short list-settles;
     }
 
 -- The ticket is settled: no refusal, and what was written is the file of a sound settlement.
@@ -98,59 +111,64 @@ module _ (ticket xs lent after : List ℕ) (r : Reply) (e : unpacked ticket ≡ 
       settles = record { unpacks = e; read = inside .file; good = inside .good };
     }
 
-pub printed-refused : (ticket zeros page page₁ : List ℕ) (w end : ℕ) → length zeros ≡ 1315 → Reply.Refused w ≡ reply (length zeros) (unpacked ticket) →
-    Wrote page page₁ 0 end (refusedText w) → Printed (unpacked ticket) page page₁ end
-printed-refused ticket zeros page page₁ w end long e v =
-    let f = reply-refused (length zeros) (unpacked ticket) w (λ xs h. omega (arith, unpacked-shape ticket xs h .few, long)) e in
-    rw f (record { text = refusedText w; sheet = refl; wrote = v; short = omega (arith, line-short (w ∷ [])) })
-
-pub printed-unpacked : (ticket xs page page₁ : List ℕ) (end : ℕ) → unpacked ticket ≡ Numbers xs → Printed (Numbers xs) page page₁ end →
-    Printed (unpacked ticket) page page₁ end
-printed-unpacked ticket xs page page₁ end e p = rw e p
-
 -- The page is copied if there is room.
+pub sheeted-short : (o : Outcome) (lent : List ℕ) → length lent < roomForSheet o → Sheeted o lent lent (Reply.Refused noRoom)
+sheeted-short o lent h = record { short = λ _. (refuses _ noRoom refl, refl); printed = λ l. absurd (omega arith) }
+
 module _ {o : Outcome} {blank page : List ℕ} {end : ℕ} (p : Printed o blank page end) (long : length blank ≡ pageBytes) where
   end-is : end ≡ length (p .text)
   end-is = omega (arith, p .wrote .ends)
 
+  short-enough : length (p .text) ≤ roomForSheet o
+  short-enough = sheet-short o (p .text) (p .sheet)
+
   pub page-long : pageBytes ≡ length page
   page-long = omega (arith, long, ap length (p .wrote .stored), length-sets blank 0 (p .text))
 
-  pub end-within : end ≤ length page
-  end-within = omega (arith, end-is, p .short, page-long)
+  module _ (fits : roomForSheet o ≤ pageBytes) where
+    pub end-within : (room : ℕ) → roomForSheet o ≤ room → (end ≤ length page) × (end ≤ room)
+    end-within room h = (omega (arith, end-is, short-enough, page-long), omega (arith, end-is, short-enough))
 
-  front-is : take end page ≡ p .text
-  front-is =
-      ap (take end) (p .wrote .stored ∙ written-front blank (p .text) (omega (arith, p .short, long)))
-      ∙ take-at (p .text) (drop (length (p .text)) blank) end (sym end-is)
+    front-is : take end page ≡ p .text
+    front-is =
+        ap (take end) (p .wrote .stored ∙ written-front blank (p .text) (omega (arith, short-enough, long)))
+        ∙ take-at (p .text) (drop (length (p .text)) blank) end (sym end-is)
 
-  pub sheeted-short : (lent : List ℕ) → length lent < end → Sheeted o lent lent (Reply.Refused noRoom)
-  sheeted-short lent h = record {
-    text = p .text;
-    sheet = p .sheet;
-    answer = sym (reply-without-room (length lent) (p .text) (omega (arith, end-is)));
-    left = sym (kept-without-room lent (p .text) (omega (arith, end-is)));
-  }
+    pub sheeted-copied : (lent after : List ℕ) → roomForSheet o ≤ length lent → after ≡ front page end lent →
+        Sheeted o lent after (Reply.Done end)
+    sheeted-copied lent after h f = record {
+      short = λ l. absurd (omega arith);
+      printed = λ _. record {
+        text = p .text;
+        sheet = p .sheet;
+        within = omega (arith, short-enough);
+        answer = counts _ _ (ap Reply.Done end-is);
+        left = f ∙ ap (λ (l : List ℕ). l ++ drop end lent) front-is ∙ ap (λ (k : ℕ). p .text ++ drop k lent) end-is;
+      };
+    }
 
-  pub sheeted-copied : (lent after : List ℕ) → end ≤ length lent → after ≡ front page end lent → Sheeted o lent after (Reply.Done end)
-  sheeted-copied lent after h f = record {
-    text = p .text;
-    sheet = p .sheet;
-    answer = ap Reply.Done end-is ∙ sym (reply-with-room (length lent) (p .text) (omega (arith, end-is)));
-    left =
-        f ∙ ap (λ (l : List ℕ). l ++ drop end lent) front-is ∙ ap (λ (k : ℕ). p .text ++ drop k lent) end-is
-        ∙ sym (kept-with-room lent (p .text) (omega (arith, end-is)));
-  }
+-- The line of a refusal is printed, and the room that is asked for it is its length.
+module _ (w : ℕ) {blank page : List ℕ} {end : ℕ} (v : Wrote blank page 0 end (refusedText w)) where
+  pub refusal-printed : Printed (Refusal w) blank page end
+  refusal-printed = record { text = refusedText w; sheet = refl; wrote = v }
 
--- A sheet is at most a page.
-pub text-short : (ticket : List ℕ) (o : Outcome) (text : List ℕ) → unpacked ticket ≡ o → IsSheet o text → length text ≤ pageBytes
-text-short ticket (Refusal w) text e i = omega (arith, ap length i, line-short (w ∷ []))
-text-short ticket (Numbers xs) text e i =
-    let s : Settles ticket xs (i .file) (i .numbers) = record { unpacks = e; read = i .read; good = i .good } in
-    omega (arith, ap length (i .same), sheet-short s)
+  pub refusal-room : (room : ℕ) → end ≤ room → roomForSheet (Refusal w) ≤ room
+  refusal-room room h = omega (arith, v .ends)
+
+  pub refusal-short : (lent : List ℕ) → length lent < end → Sheeted (Refusal w) lent lent (Reply.Refused noRoom)
+  refusal-short lent h = sheeted-short (Refusal w) lent (omega (arith, v .ends))
+
+-- From the ticket's bytes: what was refused, and what was unpacked.
+pub refused-sheeted : (s zeros lent after : List ℕ) (r : Reply) (w : ℕ) → length zeros ≡ 1315 →
+    Reply.Refused w ≡ reply (length zeros) (unpacked s) → Sheeted (Refusal w) lent after r → Sheeted (unpacked s) lent after r
+refused-sheeted s zeros lent after r w long e a =
+    rw (reply-refused (length zeros) (unpacked s) w (λ xs f. omega (arith, unpacked-shape s xs f .few, long)) e) a
+
+pub unpacked-sheeted : (s xs lent after : List ℕ) (r : Reply) → unpacked s ≡ Numbers xs → Sheeted (Numbers xs) lent after r →
+    Sheeted (unpacked s) lent after r
+unpacked-sheeted s xs lent after r e a = rw e a
 
 -- A buffer as long as a page is never refused.
-pub page-suffices : (ticket lent after : List ℕ) (r : Reply) (s : Sheeted (unpacked ticket) lent after r) → pageBytes ≤ length lent →
-    r ≡ Reply.Done (length (s .text))
-page-suffices ticket lent after r s h =
-    s .answer ∙ reply-with-room (length lent) (s .text) (omega (arith, text-short ticket (unpacked ticket) (s .text) refl (s .sheet)))
+pub page-suffices : (ticket lent after : List ℕ) (r : Reply) → Sheeted (unpacked ticket) lent after r → pageBytes ≤ length lent →
+    SheetIn (unpacked ticket) lent after r
+page-suffices ticket lent after r s h = s .printed (omega (arith, room-in-page ticket (unpacked ticket) refl))

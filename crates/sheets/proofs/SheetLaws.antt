@@ -160,18 +160,17 @@ pair-line-short t x i j =
     if-hours-short (x .hours Tariff i j) (x .hours Free i j)
     (pairNumbers i j (x .hours Tariff i j) (t .tariffGain i j) (t .tariffPay i j) (x .hours Free i j) (t .jointGain i j) (x .pay i j))
 
-pub lines-short : {ticket xs file ys : List ℕ} → Settles ticket xs file ys → length (linesOf xs ys) ≤ 8192
-lines-short {ticket} {xs} {file} {ys} s =
-    omega (
-      arith,
-      prod-small (growersOf xs) (pilotsOf xs) (few-growers s) (few-pilots s),
-      pairs-short (pairLine (ticketOf xs) (settlementOf ys)) (pilotsOf xs) (growersOf xs * pilotsOf xs) (pair-line-short (ticketOf xs) (settlementOf ys)),
-    )
+pub lines-short : (xs ys : List ℕ) → length (linesOf xs ys) ≤ 32 * (growersOf xs * pilotsOf xs)
+lines-short xs ys =
+    pairs-short (pairLine (ticketOf xs) (settlementOf ys)) (pilotsOf xs) (growersOf xs * pilotsOf xs)
+    (pair-line-short (ticketOf xs) (settlementOf ys))
 
 pub last-fits : {xs ys page page₁ : List ℕ} {at end count : ℕ} → Together xs ys count → at ≤ 14 → Wrote page page₁ at end (linesOf xs ys) →
     (count < 1000) × (end + 6 + 4 ≤ pageBytes)
 last-fits {xs} {ys} t near w =
-    (omega (arith, t .marks, count-small (t .paired .settles)), omega (arith, w .ends, lines-short (t .paired .settles)))
+    let s = t .paired .settles in
+    let few = prod-small (growersOf xs) (pilotsOf xs) (few-growers s) (few-pilots s) in
+    (omega (arith, t .marks, count-small s), omega (arith, w .ends, lines-short xs ys))
 
 pub sheet-whole : {xs ys page page₁ page₂ page₃ : List ℕ} {next last end count : ℕ} → Together xs ys count → Wrote page page₁ 0 next (headOf xs) →
     Wrote page₁ page₂ next last (linesOf xs ys) → Wrote page₂ page₃ last end (soundWord ++ line (count ∷ [])) →

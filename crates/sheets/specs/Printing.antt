@@ -1,15 +1,14 @@
 -- What the steps between a ticket's bytes and its sheet know and leave.
 -- Assumes nothing.
-use Prim.Native.Nat.{ℕ, _≤_}
+use Prim.Native.Nat.{ℕ}
 use mathlib.Core.Path.{_≡_}
 use mathlib.Core.List.{List}
-use lib.ListN.{length}
 use Rattle.reader.specs.Walk.{Outcome, Numbers}
 use Rattle.reader.specs.Answer.{unpacked, settlementRead}
 use Rattle.tables.specs.View.{growersOf, pilotsOf, ticketOf, settlementOf}
 use Rattle.marker.specs.Verdict.{judged, verdictCount}
 use Rattle.settler.specs.Settled.{SoundNumbers}
-use Rattle.sheets.specs.Writing.{pageBytes, Wrote}
+use Rattle.sheets.specs.Writing.{Wrote}
 use Rattle.sheets.specs.Sheeted.{IsSheet}
 
 -- the numbers xs of a ticket's bytes, and the numbers ys of the file of a sound settlement of it
@@ -39,4 +38,3 @@ pub record Printed (ticket : Outcome) (page page′ : List ℕ) (end : ℕ) : Ty
   pub text : List ℕ
   pub sheet : IsSheet ticket text
   pub wrote : Wrote page page′ 0 end text
-  pub short : length text ≤ pageBytes

@@ -1,12 +1,14 @@
 -- What printing a ticket's sheet into a lent buffer answers, and leaves there.
 -- Assumes nothing.
-use Prim.Native.Nat.{ℕ}
+use Prim.Native.Nat.{ℕ, _+_, _*_, _≤_, _<_}
 use mathlib.Core.Path.{_≡_}
-use mathlib.Core.List.{List}
-use lib.ListN.{length}
+use mathlib.Core.List.{List, _++_}
+use lib.ListN.{length, drop}
 use Rattle.reader.specs.declared.Reply.{Reply}
+use Rattle.reader.specs.Refusals.{noRoom}
 use Rattle.reader.specs.Walk.{Outcome, Refusal, Numbers}
-use Rattle.reader.specs.Answer.{settlementRead, reply, kept}
+use Rattle.reader.specs.Values.{Refuses, Counts}
+use Rattle.reader.specs.Answer.{settlementRead}
 use Rattle.tables.specs.View.{growersOf, pilotsOf}
 use Rattle.settler.specs.Settled.{SoundNumbers}
 use Rattle.sheets.specs.Sheet.{sheetText, refusedText}
@@ -25,9 +27,21 @@ abbrev pub IsSheet : Outcome → List ℕ → Type 0
 IsSheet (Refusal w) text = text ≡ refusedText w
 IsSheet (Numbers xs) text = SettledSheet xs text
 
--- Some sheet is written at the buffer's front and its length answered. A buffer that is too short is refused, and stays as it was.
-pub record Sheeted (ticket : Outcome) (lent after : List ℕ) (r : Reply) : Type 0 where
+-- The bytes that the buffer must have. A refusal's text has just so many; a sheet may be shorter: 14 for its header, 32 for each pair and
+-- 10 for its last line.
+abbrev pub roomForSheet : Outcome → ℕ
+roomForSheet (Refusal w) = length (refusedText w)
+roomForSheet (Numbers xs) = 24 + 32 * (growersOf xs * pilotsOf xs)
+
+-- A sheet stands at the front of the buffer, and its length is the answer. The bytes after it are as before.
+pub record SheetIn (ticket : Outcome) (lent after : List ℕ) (r : Reply) : Type 0 where
   pub text : List ℕ
   pub sheet : IsSheet ticket text
-  pub answer : r ≡ reply (length lent) (Numbers text)
-  pub left : after ≡ kept lent (Numbers text)
+  pub within : length text ≤ length lent
+  pub answer : Counts r (length text)
+  pub left : after ≡ text ++ drop (length text) lent
+
+-- An answer to what unpacking came to: a lack of room exactly when the buffer is too short, else some sheet.
+pub record Sheeted (ticket : Outcome) (lent after : List ℕ) (r : Reply) : Type 0 where
+  pub short : length lent < roomForSheet ticket → Refuses r noRoom × (after ≡ lent)
+  pub printed : roomForSheet ticket ≤ length lent → SheetIn ticket lent after r

@@ -6,8 +6,7 @@ use mathlib.Core.List.{List}
 use lib.ListN.{length}
 use lib.Seq.{sets}
 
--- How many bytes a page has: for each of 256 pairs eight numbers of three digits with a separator each, 14 for the header and 10 for the
--- last line. No sheet is longer (proofs/PrintLaws.antt).
+-- How many bytes a page has: room for a sheet of 256 pairs. No sheet is longer (`page-suffices`, proofs/PrintLaws.antt).
 abbrev pub pageBytes : ℕ
 pageBytes = 8216
 

@@ -1,5 +1,5 @@
-// The sheet of a ticket: the ticket settled, as text, or its refusal. It is written into a page of its own and then copied, so that a
-// lent buffer that is too short stays as it was.
+// The sheet of a ticket: the ticket settled, as text, or its refusal. It is written into a page of its own and then copied to a lent
+// buffer, which must have room for the longest sheet that the ticket could have.
 mod digits;
 mod lines;
 mod pairs;
@@ -10,7 +10,7 @@ ghost use mathlib.Core.Path.{_≡_};
 ghost use Prim.Native.Nat.{_≤_};
 ghost use lib.ListN.{length, take};
 ghost use Rattle.grid.specs.Front.{front};
-ghost use Rattle.reader.specs.Walk.{Numbers};
+ghost use Rattle.reader.specs.Walk.{Refusal, Numbers};
 ghost use Rattle.reader.specs.Answer.{unpacked};
 ghost use Rattle.sheets.specs.Writing.{pageBytes};
 ghost use Rattle.sheets.specs.Sheeted.{Sheeted};
@@ -21,7 +21,7 @@ use reader::Reply;
 use settled::marked_deals;
 use settled::settled_text;
 
-// The bytes of a page, which has room for every sheet.
+// The bytes of a page: 24, and 32 for each of 256 pairs. It has room for every sheet.
 pub const PAGE: usize = 8216;
 
 fn blank() -> [u8; 8216]
@@ -81,18 +81,6 @@ fn print_settled(page: &mut [u8; 8216], ticket: &[u8], numbers: &[u16]) -> usize
     }
 }
 
-// The sheet of a ticket's bytes.
-fn print(page: &mut [u8; 8216], ticket: &[u8]) -> usize
-    ensures { λ r. ⌜ Printed (unpacked (now (ticket .entry))) (now (page .entry)) (now (page .exit)) r ⌝ }
-{
-    let mut numbers = tables::ticket_list();
-    let reply = reader::unpack(ticket, &mut numbers);
-    match reply {
-        Reply::Refused { why } => counted(page, 0, b"REFUSED ", why as usize),
-        Reply::Done { count } => print_settled(page, ticket, grid::front(&numbers, count)),
-    }
-}
-
 // The first bytes of a page, to the front of a buffer.
 fn copy(page: &[u8], text: &mut [u8], end: usize)
     requires { ⌜ (end ≤ length (now page)) × (end ≤ length (now text)) ⌝ }
@@ -103,15 +91,44 @@ fn copy(page: &[u8], text: &mut [u8], end: usize)
     }
 }
 
-// Writes the sheet of a ticket's bytes at the front of a lent buffer, and returns its length in bytes.
-pub fn sheet(ticket: &[u8], text: &mut [u8]) -> Reply
-    ensures { λ r. ⌜ Sheeted (unpacked (now (ticket .entry))) (now (text .entry)) (now (text .exit)) r ⌝ }
+// The sheet of a refusal, into a lent buffer.
+fn sheet_refused(why: u8, text: &mut [u8]) -> Reply
+    ensures { λ r. ⌜ Sheeted (Refusal why) (now (text .entry)) (now (text .exit)) r ⌝ }
 {
     let mut page = blank();
-    let end = print(&mut page, ticket);
+    let end = counted(&mut page, 0, b"REFUSED ", why as usize);
     if text.len() < end {
         return Reply::Refused { why: NO_ROOM };
     }
     copy(&page, text, end);
     Reply::Done { count: end }
+}
+
+// The sheet of a ticket's numbers, into a lent buffer, which must have room for the longest sheet that the ticket could have.
+fn sheet_settled(ticket: &[u8], numbers: &[u16], text: &mut [u8]) -> Reply
+    requires { ⌜ unpacked (now ticket) ≡ Numbers (now numbers) ⌝ }
+    ensures { λ r. ⌜ Sheeted (Numbers (now (numbers .entry))) (now (text .entry)) (now (text .exit)) r ⌝ }
+{
+    let growers = grid::index(grid::entry(numbers, 1));
+    let pilots = grid::index(grid::entry(numbers, 2));
+    let pairs = grid::pairs(growers, pilots);
+    if text.len() < 24 + 32 * pairs {
+        return Reply::Refused { why: NO_ROOM };
+    }
+    let mut page = blank();
+    let end = print_settled(&mut page, ticket, numbers);
+    copy(&page, text, end);
+    Reply::Done { count: end }
+}
+
+// Writes the sheet of a ticket's bytes at the front of a lent buffer, and returns its length in bytes.
+pub fn sheet(ticket: &[u8], text: &mut [u8]) -> Reply
+    ensures { λ r. ⌜ Sheeted (unpacked (now (ticket .entry))) (now (text .entry)) (now (text .exit)) r ⌝ }
+{
+    let mut numbers = tables::ticket_list();
+    let reply = reader::unpack(ticket, &mut numbers);
+    match reply {
+        Reply::Refused { why } => sheet_refused(why, text),
+        Reply::Done { count } => sheet_settled(ticket, grid::front(&numbers, count), text),
+    }
 }
