@@ -1,51 +1,58 @@
--- The square that the code fills makes a sound settlement: it agrees with the method's in every cell of the market.
+-- The squares that the code fills make a sound settlement of the ticket that the squares it was given make.
 -- Assumes nothing.
 use Prim.Native.Nat.{ℕ, _<_}
-use mathlib.Core.Path.{_≡_, refl, ap}
+use mathlib.Core.Path.{_≡_, refl, sym, ap}
 use mathlib.Core.List.{List, []}
+use Rattle.grid.specs.Grid.{Grid}
 use Rattle.market.specs.declared.Deal.{Deal}
 use Rattle.market.specs.declared.Deal.the-variants.{Tariff, Free}
-use Rattle.market.specs.Market.{Ticket, Sound}
+use Rattle.market.specs.Market.{Sound}
 use Rattle.market.specs.Method.{GoodShift, hoursOf}
+use Rattle.market.specs.Tables.{ticketIn, settlementIn}
 use Rattle.market.specs.Same.{SameTicket}
 use Rattle.market.proofs.Same.{sound-same}
 use Rattle.market.proofs.End.{sound}
 use Rattle.method.specs.declared.Terms.{Terms}
 use Rattle.method.specs.declared.Agreed.{Agreed}
-use Rattle.method.specs.declared.Flown.{Flown}
 use Rattle.method.specs.View.{line, ticket, heldIn}
+use Rattle.method.specs.Given.{TermsOf}
 use Rattle.method.specs.State.{Ended}
-use Rattle.method.specs.Result.{settlementIn, FlownOf}
+use Rattle.method.specs.Result.{Flown, NothingBeyond}
 
-same-ticket : (t : Ticket) → SameTicket t t
-same-ticket t = record {
-  growers = refl;
-  pilots = refl;
-  growerHours = λ i hi. refl;
-  pilotHours = λ j hj. refl;
-  tariffCap = λ i j hi hj. refl;
-  tariffGain = λ i j hi hj. refl;
-  tariffPay = λ i j hi hj. refl;
-  freeCap = λ i j hi hj. refl;
-  jointGain = λ i j hi hj. refl;
-  growerStandby = λ i hi. refl;
-  pilotStandby = λ j hj. refl;
+module _ (n m : ℕ) (growerHours pilotHours : List ℕ) (tariffCap tariffGain tariffPay freeCap jointGain : Grid) (terms : List (List Terms))
+    (made : TermsOf tariffCap tariffGain tariffPay freeCap jointGain n m terms) where
+  -- the square of terms makes the same ticket as the five squares
+  terms-same : SameTicket (ticket n m growerHours pilotHours terms) (ticketIn n m growerHours pilotHours tariffCap tariffGain tariffPay freeCap jointGain)
+  terms-same = record {
+    growers = refl;
+    pilots = refl;
+    growerHours = λ i hi. refl;
+    pilotHours = λ j hj. refl;
+    tariffCap = λ i j hi hj. sym (ap (λ (p : Terms). p .«tariff_cap») (made i hi j hj));
+    tariffGain = λ i j hi hj. sym (ap (λ (p : Terms). p .«tariff_gain») (made i hi j hj));
+    tariffPay = λ i j hi hj. sym (ap (λ (p : Terms). p .«tariff_pay») (made i hi j hj));
+    freeCap = λ i j hi hj. sym (ap (λ (p : Terms). p .«free_cap») (made i hi j hj));
+    jointGain = λ i j hi hj. sym (ap (λ (p : Terms). p .«joint_gain») (made i hi j hj));
+    growerStandby = λ i hi. refl;
+    pilotStandby = λ j hj. refl;
+  }
+
+  module _ {prices : List ℕ} {held : List (List Agreed)} {shift : ℕ} {tariffHours freeHours pay : Grid} where
+    pub flown-sound : Ended (ticket n m growerHours pilotHours terms) prices held → GoodShift (ticket 0 m [] [] []) (line prices) shift →
+        Flown held prices shift n m tariffHours freeHours pay →
+        Sound (ticketIn n m growerHours pilotHours tariffCap tariffGain tariffPay freeCap jointGain) (settlementIn tariffHours freeHours pay)
+    flown-sound end g f =
+        sound-same terms-same (record { hours = hours; pay = f .payIn .inner })
+        (sound (end .live .inv) (record { small = g .small; apart = g .apart }) (end .done))
+      where
+        hours : (d : Deal) (i j : ℕ) → i < n → j < m → settlementIn tariffHours freeHours pay .hours d i j ≡ hoursOf (heldIn held) d i j
+        hours Tariff = f .tariffHoursIn .inner
+        hours Free = f .freeHoursIn .inner
+
+pub flown-within : {n m : ℕ} {prices : List ℕ} {held : List (List Agreed)} {shift : ℕ} {tariffHours freeHours pay : Grid} →
+    Flown held prices shift n m tariffHours freeHours pay → NothingBeyond n m tariffHours freeHours pay
+flown-within f = record {
+  noTariffHours = f .tariffHoursIn .outer;
+  noFreeHours = f .freeHoursIn .outer;
+  noPay = f .payIn .outer;
 }
-
-module _ (n m : ℕ) (growerHours pilotHours : List ℕ) (terms : List (List Terms)) (prices : List ℕ) (held : List (List Agreed)) (shift : ℕ) where
-  abbrev whole : Ticket
-  whole = ticket n m growerHours pilotHours terms
-
-  good-any : GoodShift (ticket 0 m [] [] []) (line prices) shift → GoodShift whole (line prices) shift
-  good-any g = record { small = g .small; apart = g .apart }
-
-  pub flown-sound : (flown : List (List Flown)) → Ended whole prices held → GoodShift (ticket 0 m [] [] []) (line prices) shift →
-      FlownOf held prices shift n m flown → Sound whole (settlementIn flown)
-  flown-sound flown end g f =
-      sound-same (same-ticket _)
-      (record { hours = hours; pay = λ i j hi hj. ap (λ (p : Flown). p .pay) (f i hi j hj) })
-      (sound (end .live .inv) (good-any g) (end .done))
-    where
-      hours : (d : Deal) (i j : ℕ) → i < n → j < m → settlementIn flown .hours d i j ≡ hoursOf (heldIn held) d i j
-      hours Tariff i j hi hj = ap (λ (p : Flown). p .«tariff_hours») (f i hi j hj)
-      hours Free i j hi hj = ap (λ (p : Flown). p .«free_hours») (f i hi j hj)

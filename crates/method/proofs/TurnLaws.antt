@@ -24,10 +24,12 @@ use Rattle.method.specs.LateHours.{lateSlot, HasLate}
 use Rattle.method.specs.Changes.{Full, Aged}
 use Rattle.method.proofs.HourChanges.{nothing-held}
 
--- the free hours of a pair fit its cells
-pub free-hours-fit : (t : Ticket) (prices : List ℕ) (held : List (List Agreed)) → Fit t → Live t prices held → (i j : ℕ) →
-    i < t .growers → j < t .pilots → agreedAt held i j .«old_free» + agreedAt held i j .«new_free» < 65536
-free-hours-fit t prices held fit live i j hi hj =
+-- the hours of a deal fit a cell
+pub hours-fit : (t : Ticket) (prices : List ℕ) (held : List (List Agreed)) → Fit t → Live t prices held → (d : Deal) (i j : ℕ) →
+    i < t .growers → j < t .pilots → hoursOf (heldIn held) d i j < 65536
+hours-fit t prices held fit live Tariff i j hi hj =
+    omega (arith, live .inv .core .pair i j hi hj .withinCap Tariff, fit .tariffCap i j)
+hours-fit t prices held fit live Free i j hi hj =
     omega (arith, live .inv .core .pair i j hi hj .withinCap Free, fit .freeCap i j)
 
 -- and so do hours that the deal has room for

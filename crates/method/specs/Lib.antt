@@ -1,4 +1,5 @@
 pub mod View
+pub mod Given
 pub mod State
 pub mod Choice
 pub mod LateHours

@@ -1,14 +1,14 @@
 // The start and the end: no hours and no prices; then prices in whole euros, and what everybody flies.
 ghost use mathlib.Core.Path.{_≡_};
-ghost use Prim.Native.Nat.{ℕ, _+_, _<_, _≤_};
+ghost use Prim.Native.Nat.{ℕ, _<_, _≤_};
 ghost use mathlib.Core.List.{[]};
 ghost use lib.ListN.{length};
-ghost use Rattle.market.specs.Method.{GoodShift};
-ghost use Rattle.method.specs.View.{line, ticket, agreedIn, agreedAt, noHours};
+ghost use Rattle.market.specs.declared.Deal.{Deal};
+ghost use Rattle.market.specs.Method.{GoodShift, hoursOf};
+ghost use Rattle.method.specs.View.{line, ticket, agreedIn, agreedAt, noHours, heldIn};
 ghost use Rattle.method.specs.Changes.{Full};
-ghost use Rattle.method.specs.Result.{payAt, flownOf, FlownOfGrower, FlownOf, Clash};
+ghost use Rattle.method.specs.Result.{payAt, Flown, Clash};
 use crate::Agreed;
-use crate::Flown;
 use crate::numbers::narrow;
 
 pub(crate) fn zero_prices() -> [u32; 16]
@@ -66,7 +66,7 @@ pub(crate) fn rounding(pilots: usize, price: [u32; 16]) -> u32
 }
 
 // The pay for a free hour, 0 where the pair has none.
-fn pay(hours: u16, price: u32, shift: u32) -> u16
+fn pay_for(hours: u16, price: u32, shift: u32) -> u16
     requires { ⌜ (price ≤ 1179631) × (shift ≤ 16) ⌝ }
     ensures { λ r. ⌜ r ≡ payAt price shift hours ⌝ }
 {
@@ -77,64 +77,31 @@ fn pay(hours: u16, price: u32, shift: u32) -> u16
     }
 }
 
-// What a pair flies that holds these hours.
-fn flown(agreed: Agreed, price: u32, shift: u32) -> Flown
-    requires { ⌜ (agreed .«old_free» + agreed .«new_free» < 65536) × (price ≤ 1179631) × (shift ≤ 16) ⌝ }
-    ensures { λ r. ⌜ r ≡ flownOf agreed price shift ⌝ }
-{
-    let free = agreed.old_free + agreed.new_free;
-    Flown {
-        tariff_hours: agreed.by_tariff,
-        free_hours: free,
-        pay: pay(free, price, shift),
-    }
-}
-
-fn nothing_flown() -> [Flown; 16]
-    ensures { λ r. ⌜ length r ≡ 16 ⌝ }
-{
-    let none = Flown {
-        tariff_hours: 0,
-        free_hours: 0,
-        pay: 0,
-    };
-    [none; 16]
-}
-
-fn nobody_flies() -> [[Flown; 16]; 16]
-    ensures { λ r. ⌜ length r ≡ 16 ⌝ }
-{
-    let row = nothing_flown();
-    [row; 16]
-}
-
-// What a grower's first pilots fly for him.
-fn flown_row(pilots: usize, agreed: [Agreed; 16], price: [u32; 16], shift: u32) -> [Flown; 16]
-    requires { ⌜ (pilots ≤ 16) × (shift ≤ 16) × ((j : ℕ) → j < pilots → line price j ≤ 1179631) ⌝ }
-    requires { ⌜ ((j : ℕ) → j < pilots → agreedIn agreed j .«old_free» + agreedIn agreed j .«new_free» < 65536) ⌝ }
-    ensures { λ r. ⌜ FlownOfGrower agreed price shift pilots r ⌝ }
-{
-    let mut row = nothing_flown();
-    for j in 0..pilots {
-        row[j] = flown(agreed[j], price[j], shift);
-    }
-    row
-}
-
-pub(crate) fn flown_square(
+// Writes the hours that everybody flies, and returns the pay.
+pub(crate) fn write_flown(
     growers: usize,
     pilots: usize,
     held: [[Agreed; 16]; 16],
     price: [u32; 16],
     shift: u32,
-) -> [[Flown; 16]; 16]
+    tariff_hours: &mut [[u16; 16]; 16],
+    free_hours: &mut [[u16; 16]; 16],
+) -> [[u16; 16]; 16]
     requires { ⌜ (growers ≤ 16) × (pilots ≤ 16) × (shift ≤ 16) × ((j : ℕ) → j < pilots → line price j ≤ 1179631) ⌝ }
-    requires { ⌜ ((i j : ℕ) → i < growers → j < pilots → agreedAt held i j .«old_free» + agreedAt held i j .«new_free» < 65536) ⌝ }
-    ensures { λ r. ⌜ FlownOf held price shift growers pilots r ⌝ }
+    requires { ⌜ ((d : Deal) (i j : ℕ) → i < growers → j < pilots → hoursOf (heldIn held) d i j < 65536) ⌝ }
+    ensures { λ r. ⌜ Flown held price shift growers pilots (now («tariff_hours» .exit)) (now («free_hours» .exit)) r ⌝ }
 {
-    let mut square = nobody_flies();
+    *tariff_hours = grid::zeros();
+    *free_hours = grid::zeros();
+    let mut pay = grid::zeros();
     for i in 0..growers {
-        square[i] = flown_row(pilots, held[i], price, shift);
+        for j in 0..pilots {
+            let agreed = held[i][j];
+            let free = agreed.old_free + agreed.new_free;
+            tariff_hours[i][j] = agreed.by_tariff;
+            free_hours[i][j] = free;
+            pay[i][j] = pay_for(free, price[j], shift);
+        }
     }
-    square
+    pay
 }

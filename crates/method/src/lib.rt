@@ -1,9 +1,11 @@
 // The method that settles a market. Growers propose, pilots keep the best offers, prices rise in eighteenths of a euro, and one
-// rounding at the end makes them whole euros. What a pair has in the ticket, the hours it holds and what it flies in the end stand in
-// squares of growers by pilots, which go by value. The state is a row of prices, the square of the hours held and a row of free hours.
+// rounding at the end makes them whole euros. Each quantity of a pair comes and goes in a square of growers by pilots of its own. Inside,
+// what the ticket says of a pair stands in one square, and the hours that it holds in another. The state is a row of prices, the square of
+// the hours held and a row of free hours.
 mod changes;
 mod choice;
 mod finish;
+mod given;
 mod growers_bear;
 mod jumps;
 mod late;
@@ -17,24 +19,17 @@ mod turns;
 
 ghost use Prim.Native.Nat.{min};
 ghost use Rattle.market.specs.Market.{Sound};
-ghost use Rattle.method.specs.View.{ticket};
-ghost use Rattle.method.specs.Result.{settlementIn};
+ghost use Rattle.market.specs.Tables.{ticketIn, settlementIn};
+ghost use Rattle.method.specs.Result.{NothingBeyond};
 use market::Deal;
 
 // What the ticket says of a grower and a pilot: caps in hours, amounts in euros per hour.
-pub struct Terms {
-    pub tariff_cap: u16,
-    pub tariff_gain: u16,
-    pub tariff_pay: u16,
-    pub free_cap: u16,
-    pub joint_gain: u16,
-}
-
-// What a grower and a pilot fly: the hours of their two deals, and the pilot's pay per free hour.
-pub struct Flown {
-    pub tariff_hours: u16,
-    pub free_hours: u16,
-    pub pay: u16,
+pub(crate) struct Terms {
+    pub(crate) tariff_cap: u16,
+    pub(crate) tariff_gain: u16,
+    pub(crate) tariff_pay: u16,
+    pub(crate) free_cap: u16,
+    pub(crate) joint_gain: u16,
 }
 
 // The hours that a grower and a pilot hold: by the tariff, and in the free deal the old ones, agreed before the last rise of the
@@ -63,20 +58,39 @@ pub(crate) enum LateHours {
     Hours(Deal, u16),
 }
 
-// A sound settlement of the market of the first growers and pilots, at most 16 of each, whatever their hours, caps and amounts.
+// A sound settlement of the market of the first growers and pilots, at most 16 of each, whatever their hours, caps and amounts: writes
+// the hours of tariff deals and of free deals, and returns the pay per free hour. Pairs beyond those have none.
 pub fn settle_squares(
     growers: usize,
     pilots: usize,
     grower_hours: [u16; 16],
     pilot_hours: [u16; 16],
-    terms: [[Terms; 16]; 16],
-) -> [[Flown; 16]; 16]
-    ensures { λ r. ⌜ Sound (ticket (min 16 growers) (min 16 pilots) «grower_hours» «pilot_hours» terms) (settlementIn r) ⌝ }
+    tariff_cap: [[u16; 16]; 16],
+    tariff_gain: [[u16; 16]; 16],
+    tariff_pay: [[u16; 16]; 16],
+    free_cap: [[u16; 16]; 16],
+    joint_gain: [[u16; 16]; 16],
+    tariff_hours: &mut [[u16; 16]; 16],
+    free_hours: &mut [[u16; 16]; 16],
+) -> [[u16; 16]; 16]
+    ensures { λ r. ⌜ Sound
+        (ticketIn (min 16 growers) (min 16 pilots) «grower_hours» «pilot_hours» «tariff_cap» «tariff_gain» «tariff_pay» «free_cap» «joint_gain»)
+        (settlementIn (now («tariff_hours» .exit)) (now («free_hours» .exit)) r) ⌝ }
+    ensures { λ r. ⌜ NothingBeyond (min 16 growers) (min 16 pilots) (now («tariff_hours» .exit)) (now («free_hours» .exit)) r ⌝ }
 {
     let n = grid::within(growers);
     let m = grid::within(pilots);
+    let terms = given::terms_square(
+        n,
+        m,
+        tariff_cap,
+        tariff_gain,
+        tariff_pay,
+        free_cap,
+        joint_gain,
+    );
     let mut price = finish::zero_prices();
     let held = turns::run(n, m, grower_hours, pilot_hours, terms, &mut price);
     let shift = finish::rounding(m, price);
-    finish::flown_square(n, m, held, price, shift)
+    finish::write_flown(n, m, held, price, shift, tariff_hours, free_hours)
 }

@@ -8,82 +8,70 @@ use lib.ListN.{length, take, drop}
 use lib.Seq.{take-at, drop-append-seam}
 use Rattle.reader.specs.declared.Reply.{Reply}
 use Rattle.reader.specs.Refusals.{noRoom}
-use Rattle.reader.specs.Groups.{pack}
 use Rattle.reader.specs.Walk.{Numbers}
 use Rattle.reader.specs.Answer.{unpacked, settlementRead, settlementPacked, reply, kept}
-use Rattle.reader.proofs.Facts.{unpacked-shape, settlement-accepted, settlement-bytes, reply-with-room, kept-with-room}
-use Rattle.reader.proofs.Facts.{reply-refused}
+use Rattle.reader.proofs.Facts.{unpacked-shape, settlement-packed-read, reply-with-room, kept-with-room, reply-refused}
 use Rattle.reader.proofs.Telling.{refuses, counts}
 use Rattle.tables.specs.View.{growersOf, pilotsOf}
 use Rattle.marker.specs.declared.Verdict.{Verdict}
 use Rattle.marker.specs.Marked.{marked}
 use Rattle.marker.proofs.Marking.{sound-files-marked}
 use Rattle.settler.specs.Settled.{roomFor, SettledIn, Answers, Settled}
-use Rattle.settler.specs.FromList.{IsTicket, settlementCount, SoundFront}
+use Rattle.settler.specs.Numbers.{settlementFront, SoundFront}
 
-pub short-answers : (xs lent : List ℕ) → length lent < roomFor xs → Answers xs lent lent (Reply.Refused noRoom)
-short-answers xs lent h = record { short = λ _. (refuses _ noRoom refl, refl); settled = λ l. absurd (omega arith) }
+module _ (xs list lent after : List ℕ) (r : Reply) (f : SoundFront xs list) (room : roomFor xs ≤ length lent)
+    (answered : r ≡ reply (length lent) (settlementPacked (growersOf xs) (pilotsOf xs) (settlementFront xs list)))
+    (left : after ≡ kept lent (settlementPacked (growersOf xs) (pilotsOf xs) (settlementFront xs list))) where
+  fits : length (f .bytes) ≤ length lent
+  fits = omega (arith, f .short, room)
 
-module _ (xs list lent after : List ℕ) (r : Reply) (is : IsTicket xs) (f : SoundFront xs list) (room : roomFor xs ≤ length lent)
-    (answered : r ≡ reply (length lent) (settlementPacked (growersOf xs) (pilotsOf xs) (take (settlementCount xs) list)))
-    (left : after ≡ kept lent (settlementPacked (growersOf xs) (pilotsOf xs) (take (settlementCount xs) list))) where
-  abbrev numbers : List ℕ
-  numbers = take (settlementCount xs) list
+  front : after ≡ f .bytes ++ drop (length (f .bytes)) lent
+  front = left ∙ ap (kept lent) (f .packs) ∙ kept-with-room lent (f .bytes) fits
 
-  packs : settlementPacked (growersOf xs) (pilotsOf xs) numbers ≡ Numbers (pack numbers)
-  packs = settlement-accepted (growersOf xs) (pilotsOf xs) numbers (f .shape) .0
+  read : settlementRead (growersOf xs) (pilotsOf xs) (take (length (f .bytes)) after) ≡ Numbers (settlementFront xs list)
+  read =
+      ap (λ (s : List ℕ). settlementRead (growersOf xs) (pilotsOf xs) (take (length (f .bytes)) s)) front
+      ∙ ap (settlementRead (growersOf xs) (pilotsOf xs)) (take-at (f .bytes) (drop (length (f .bytes)) lent) (length (f .bytes)) refl)
+      ∙ settlement-packed-read (growersOf xs) (pilotsOf xs) (settlementFront xs list) (f .bytes) (f .packs)
 
-  few : length (pack numbers) ≤ length lent
-  few =
-      let s = unpacked-shape (is .bytes) xs (is .from) in
-      let n : growersOf xs < 128 = omega (arith, s .growers) in
-      let m : pilotsOf xs < 128 = omega (arith, s .pilots) in
-      omega (arith, settlement-bytes (growersOf xs) (pilotsOf xs) numbers (f .shape) n m (f .hours), room)
-
-  front : after ≡ pack numbers ++ drop (length (pack numbers)) lent
-  front = left ∙ ap (kept lent) packs ∙ kept-with-room lent (pack numbers) few
-
-  settled-in : SettledIn xs lent after (length (pack numbers))
+  settled-in : SettledIn xs lent after (length (f .bytes))
   settled-in = record {
-    within = few;
-    numbers = numbers;
-    file =
-        ap (settlementRead (growersOf xs) (pilotsOf xs))
-        (ap (take (length (pack numbers))) front ∙ take-at (pack numbers) (drop (length (pack numbers)) lent) (length (pack numbers)) refl)
-        ∙ settlement-accepted (growersOf xs) (pilotsOf xs) numbers (f .shape) .1;
+    within = fits;
+    numbers = settlementFront xs list;
+    file = read;
     good = f .good;
-    rest = ap (drop (length (pack numbers))) front ∙ drop-append-seam (pack numbers) (drop (length (pack numbers)) lent);
+    rest = ap (drop (length (f .bytes))) front ∙ drop-append-seam (f .bytes) (drop (length (f .bytes)) lent);
   }
 
-  pub settled-answers : Answers xs lent after r
+  settled-answers : Answers xs lent after r
   settled-answers = record {
     short = λ h. absurd (omega arith);
     settled = λ _. (
-      length (pack numbers),
-      counts r _ (answered ∙ ap (reply (length lent)) packs ∙ reply-with-room (length lent) (pack numbers) few),
+      length (f .bytes),
+      counts r _ (answered ∙ ap (reply (length lent)) (f .packs) ∙ reply-with-room (length lent) (f .bytes) fits),
       settled-in,
     );
   }
 
 -- The same of what the code has read and cut: growers, pilots and pairs as numbers of their own, and the front of the list.
-pub written-answers : (xs list own lent after : List ℕ) (r : Reply) (growers pilots pairs : ℕ) → IsTicket xs → SoundFront xs list →
+pub written-answers : (xs list own lent after : List ℕ) (r : Reply) (growers pilots pairs : ℕ) → SoundFront xs list →
     growers ≡ growersOf xs → pilots ≡ pilotsOf xs → pairs ≡ growers * pilots → own ≡ take (3 + 3 * pairs) list →
     3 + 4 * pairs ≤ length lent → r ≡ reply (length lent) (settlementPacked growers pilots own) →
     after ≡ kept lent (settlementPacked growers pilots own) → Answers xs lent after r
-written-answers xs list own lent after r growers pilots pairs is f eg ep e cut room answered left =
-    settled-answers xs list lent after r is f (omega (arith, room, count)) (answered ∙ ap (reply (length lent)) same)
-    (left ∙ ap (kept lent) same)
+written-answers xs list own lent after r growers pilots pairs f eg ep e cut room answered left =
+    settled-answers xs list lent after r f (omega (arith, room, count)) (answered ∙ ap (reply (length lent)) same) (left ∙ ap (kept lent) same)
   where
     count : pairs ≡ growersOf xs * pilotsOf xs
     count = e ∙ rw (eg, ep)
 
-    same : settlementPacked growers pilots own ≡ settlementPacked (growersOf xs) (pilotsOf xs) (take (settlementCount xs) list)
+    same : settlementPacked growers pilots own ≡ settlementPacked (growersOf xs) (pilotsOf xs) (settlementFront xs list)
     same = rw (eg, ep, cut, count)
 
 pub room-answers : (xs lent : List ℕ) (growers pilots pairs : ℕ) → growers ≡ growersOf xs → pilots ≡ pilotsOf xs →
     pairs ≡ growers * pilots → length lent < 3 + 4 * pairs → Answers xs lent lent (Reply.Refused noRoom)
 room-answers xs lent growers pilots pairs eg ep e h =
-    let count : pairs ≡ growersOf xs * pilotsOf xs = e ∙ rw (eg, ep) in short-answers xs lent (omega (arith, count))
+    let count : pairs ≡ growersOf xs * pilotsOf xs = e ∙ rw (eg, ep) in
+    record { short = λ _. (refl, refl); settled = λ l. absurd (omega (arith, count)) }
 
 -- From the ticket's bytes: what was refused, and what was unpacked.
 pub refused-settles : (s zeros lent : List ℕ) (w : ℕ) → length zeros ≡ 1315 → Reply.Refused w ≡ reply (length zeros) (unpacked s) →

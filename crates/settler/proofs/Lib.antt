@@ -1,4 +1,4 @@
 pub mod ListLaws
-pub mod TicketTables
+pub mod TicketLimits
 pub mod SettlementNumbers
 pub mod Answering

@@ -8,146 +8,111 @@ use native.Mathlib.Nat.{div-add-mod'}
 use native.Mathlib.Omega.{arith}
 use lib.ListN.{length, getD, take, List·getD-eq-default}
 use lib.Seq.{getD-take, length-take-le}
+use Rattle.grid.specs.Grid.{Grid}
 use Rattle.grid.proofs.Cases.{lt-or-le}
 use Rattle.grid.proofs.Places.{inside, prod-small}
 use Rattle.market.specs.declared.Deal.{Deal}
 use Rattle.market.specs.declared.Deal.the-variants.{Tariff, Free}
 use Rattle.market.specs.Market.{Ticket, Sound}
+use Rattle.market.specs.Tables.{settlementIn}
 use Rattle.market.specs.Same.{SameTicket, SameSettlement}
 use Rattle.market.proofs.Same.{sound-same}
 use Rattle.market.proofs.Gains.{nothing-blocks-iff}
+use Rattle.reader.specs.Groups.{pack}
 use Rattle.reader.proofs.SettlementLaws.{SettlementShape}
-use Rattle.reader.proofs.Facts.{pair-below}
-use Rattle.tables.specs.View.{growersOf, pilotsOf, ticketOf, settlementOf}
-use Rattle.method.specs.declared.Flown.{Flown}
-use Rattle.method.specs.Result.{flownAt, settlementIn}
-use Rattle.settler.specs.Listing.{Listed}
-use Rattle.settler.specs.FromList.{IsTicket, settlementCount, SoundFront}
-use Rattle.settler.proofs.TicketTables.{limits}
+use Rattle.reader.proofs.Facts.{pair-below, settlement-accepted, settlement-bytes}
+use Rattle.tables.specs.View.{growersOf, pilotsOf, pairPlace, ticketOf, settlementOf}
+use Rattle.settler.specs.Listing.{nth, numberOf, Listed}
+use Rattle.settler.specs.Numbers.{IsTicket, settlementFront, SoundFront}
+use Rattle.settler.proofs.TicketLimits.{limits}
 
--- every pair of the market
-abbrev Small : ℕ → ℕ → (ℕ → ℕ → ℕ) → ℕ → Type 0
-Small n m f b = (i j : ℕ) → i < n → j < m → f i j < b
-
-abbrev tariffIn : List (List Flown) → ℕ → ℕ → ℕ
-tariffIn flown i j = flownAt flown i j .«tariff_hours»
-
-abbrev freeIn : List (List Flown) → ℕ → ℕ → ℕ
-freeIn flown i j = flownAt flown i j .«free_hours»
-
-abbrev payIn : List (List Flown) → ℕ → ℕ → ℕ
-payIn flown i j = flownAt flown i j .pay
-
-module _ {n m : ℕ} {flown : List (List Flown)} {list : List ℕ} (l : Listed n m flown list) where
-  -- the numbers of the pair at place q
-  pair-numbers : (b : ℕ) → Small n m (tariffIn flown) b → Small n m (freeIn flown) b → Small n m (payIn flown) b → (q : ℕ) → q < n * m →
-      (getD list (3 + 3 * q) 0 < b) × (getD list (3 + 3 * q + 1) 0 < b) × (getD list (3 + 3 * q + 2) 0 < b)
-  pair-numbers b ht hf hp q h =
-      let w = inside n m q h in
-      let i = q / m in
-      let j = q % m in
-      let e : i * m + j ≡ q = div-add-mod' q m in
-      let at-place : (k : ℕ) → getD list (3 + 3 * (i * m + j) + k) 0 ≡ getD list (3 + 3 * q + k) 0 =
-      λ k. ap (λ (p : ℕ). getD list (3 + 3 * p + k) 0) e in
-      let first : getD list (3 + 3 * (i * m + j)) 0 ≡ getD list (3 + 3 * q) 0 = ap (λ (p : ℕ). getD list (3 + 3 * p) 0) e in (
-        omega (arith, first, l .tariffHours i j (w .grower) (w .pilot), ht i j (w .grower) (w .pilot)),
-        omega (arith, at-place 1, l .freeHours i j (w .grower) (w .pilot), hf i j (w .grower) (w .pilot)),
-        omega (arith, at-place 2, l .payPerHour i j (w .grower) (w .pilot), hp i j (w .grower) (w .pilot)),
-      )
-
-  -- every number of the settlement: of its head, or of a pair
-  numbers-small : Small n m (tariffIn flown) 16384 → Small n m (freeIn flown) 16384 → Small n m (payIn flown) 16384 → n ≤ 16 → m ≤ 16 →
-      (p : ℕ) → p < 3 + 3 * (n * m) → getD list p 0 < 16384
-  numbers-small ht hf hp hn hm zero h = omega (arith, l .head .kind)
-  numbers-small ht hf hp hn hm (suc zero) h = omega (arith, l .head .growers)
-  numbers-small ht hf hp hn hm (suc (suc zero)) h = omega (arith, l .head .pilots)
-  numbers-small ht hf hp hn hm (suc (suc (suc r))) h =
-      let q = r / 3 in
-      let v = pair-numbers 16384 ht hf hp q (omega arith) in
-      third (r % 3) (omega arith) v
-    where
-      third : (k : ℕ) → suc (suc (suc r)) ≡ 3 + 3 * (r / 3) + k →
-          (getD list (3 + 3 * (r / 3)) 0 < 16384) × (getD list (3 + 3 * (r / 3) + 1) 0 < 16384) ×
-          (getD list (3 + 3 * (r / 3) + 2) 0 < 16384) →
-          getD list (suc (suc (suc r))) 0 < 16384
-      third zero e v =
-          let f : suc (suc (suc r)) ≡ 3 + 3 * (r / 3) = omega arith in omega (arith, v .0, ap (λ (p : ℕ). getD list p 0) f)
-      third (suc zero) e v = omega (arith, v .1, ap (λ (p : ℕ). getD list p 0) e)
-      third (suc (suc zero)) e v = omega (arith, v .2, ap (λ (p : ℕ). getD list p 0) e)
-      third (suc (suc (suc k))) e v = absurd (omega arith)
+module _ {n m : ℕ} {tariffHours freeHours pay : Grid} {list : List ℕ} (l : Listed n m tariffHours freeHours pay list)
+    (long : length list ≡ 771) (hn : n ≤ 16) (hm : m ≤ 16) where
+  abbrev number : ℕ → ℕ → ℕ → ℕ
+  number = numberOf tariffHours freeHours pay
 
   -- the settlement's own numbers are the front of the list
-  module _ (long : length list ≡ 771) (hn : n ≤ 16) (hm : m ≤ 16) where
-    abbrev own : List ℕ
-    own = take (3 + 3 * (n * m)) list
+  abbrev own : List ℕ
+  own = take (3 + 3 * (n * m)) list
 
-    own-long : length own ≡ 3 + 3 * (n * m)
-    own-long = length-take-le (3 + 3 * (n * m)) list (omega (arith, long, prod-small n m hn hm))
+  own-long : length own ≡ 3 + 3 * (n * m)
+  own-long = length-take-le (3 + 3 * (n * m)) list (omega (arith, long, prod-small n m hn hm))
 
-    own-number : (p : ℕ) → p < 3 + 3 * (n * m) → getD own p 0 ≡ getD list p 0
-    own-number p h = getD-take (3 + 3 * (n * m)) list p 0 h
+  own-number : (p : ℕ) → p < 3 + 3 * (n * m) → getD own p 0 ≡ getD list p 0
+  own-number p h = getD-take (3 + 3 * (n * m)) list p 0 h
 
-    own-pilots : getD own 2 0 ≡ m
-    own-pilots = own-number 2 (omega arith) ∙ l .head .pilots
+  own-head : (k p : ℕ) → k < 3 → p ≡ k → getD own p 0 ≡ nth 2 n m k
+  own-head k p h e = own-number p (omega arith) ∙ ap (λ (q : ℕ). getD list q 0) e ∙ l .head k h
 
-    own-small : Small n m (tariffIn flown) 16384 → Small n m (freeIn flown) 16384 → Small n m (payIn flown) 16384 → (p : ℕ) → getD own p 0 < 16384
-    own-small ht hf hp p = ⊎-elim
-        (λ h. omega (arith, own-number p h, numbers-small ht hf hp hn hm p h))
-        (λ h. omega (arith, List·getD-eq-default own 0 {n = p} (omega (arith, own-long))))
-        (lt-or-le p (3 + 3 * (n * m)))
+  -- the number k of the pair at place q
+  at-place : (q k p : ℕ) → q < n * m → k < 3 → p ≡ 3 + 3 * q + k → getD own p 0 ≡ number k (q / m) (q % m)
+  at-place q k p h hk e =
+      let w = inside n m q h in
+      let f : p ≡ 3 + 3 * (q / m * m + q % m) + k = omega (arith, div-add-mod' q m) in
+      own-number p (omega arith) ∙ ap (λ (a : ℕ). getD list a 0) f ∙ l .pairs k (q / m) (q % m) hk (w .grower) (w .pilot)
 
-    pub own-shape : Small n m (tariffIn flown) 16384 → Small n m (freeIn flown) 16384 → Small n m (payIn flown) 16384 → SettlementShape own n m
-    own-shape ht hf hp = record {
+  -- the number k of a pair
+  of-pair : (i j k : ℕ) → i < n → j < m → k < 3 → getD own (pairPlace 3 3 k (pilotsOf own) i j) 0 ≡ number k i j
+  of-pair i j k hi hj hk =
+      ap (λ (w : ℕ). getD own (pairPlace 3 3 k w i j) 0) (own-head 2 2 (omega arith) refl)
+      ∙ own-number (pairPlace 3 3 k m i j) (omega (arith, pair-below n m i j hi hj))
+      ∙ l .pairs k i j hk hi hj
+
+  own-same : (t : Ticket) → t .growers ≡ n → t .pilots ≡ m → SameSettlement t (settlementIn tariffHours freeHours pay) (settlementOf own)
+  own-same t en em = record {
+    hours = hours;
+    pay = λ i j hi hj. of-pair i j 2 (omega (arith, en)) (omega (arith, em)) (omega arith);
+  }
+    where
+      hours : (d : Deal) (i j : ℕ) → i < t .growers → j < t .pilots →
+          settlementOf own .hours d i j ≡ settlementIn tariffHours freeHours pay .hours d i j
+      hours Tariff i j hi hj = of-pair i j 0 (omega (arith, en)) (omega (arith, em)) (omega arith)
+      hours Free i j hi hj = of-pair i j 1 (omega (arith, en)) (omega (arith, em)) (omega arith)
+
+  module _ (small : (k i j : ℕ) → i < n → j < m → number k i j < 16384) where
+    -- every number: of the head, or of a pair
+    number-small : (p : ℕ) → p < 3 + 3 * (n * m) → getD own p 0 < 16384
+    number-small zero h = omega (arith, own-head 0 0 (omega arith) refl)
+    number-small (suc zero) h = omega (arith, own-head 1 1 (omega arith) refl)
+    number-small (suc (suc zero)) h = omega (arith, own-head 2 2 (omega arith) refl)
+    number-small (suc (suc (suc r))) h =
+        let hq : r / 3 < n * m = omega arith in
+        let w = inside n m (r / 3) hq in
+        omega (
+          arith,
+          at-place (r / 3) (r % 3) (suc (suc (suc r))) hq (omega arith) (omega arith),
+          small (r % 3) (r / 3 / m) (r / 3 % m) (w .grower) (w .pilot),
+        )
+
+    own-shape : SettlementShape own n m
+    own-shape = record {
       count = own-long;
-      kind = own-number 0 (omega arith) ∙ l .head .kind;
-      growers = own-number 1 (omega arith) ∙ l .head .growers;
-      pilots = own-pilots;
-      small = own-small ht hf hp;
+      kind = own-head 0 0 (omega arith) refl;
+      growers = own-head 1 1 (omega arith) refl;
+      pilots = own-head 2 2 (omega arith) refl;
+      small = λ p. ⊎-elim
+          (number-small p)
+          (λ h. omega (arith, List·getD-eq-default own 0 {n = p} (omega (arith, own-long))))
+          (lt-or-le p (3 + 3 * (n * m)));
     }
 
-    -- the number k of a pair
-    own-pair : (i j k p : ℕ) → i < n → j < m → k < 3 → p ≡ 3 + 3 * (i * m + j) + k →
-        getD own (3 + 3 * (i * getD own 2 0 + j) + k) 0 ≡ getD list p 0
-    own-pair i j k p hi hj hk e =
-        ap (λ (w : ℕ). getD own (3 + 3 * (i * w + j) + k) 0) own-pilots
-        ∙ own-number (3 + 3 * (i * m + j) + k) (omega (arith, pair-below n m i j hi hj))
-        ∙ ap (λ (q : ℕ). getD list q 0) (sym e)
-
-    pub own-same : (t : Ticket) → t .growers ≡ n → t .pilots ≡ m → SameSettlement t (settlementIn flown) (settlementOf own)
-    own-same t en em = record { hours = hours; pay = λ i j hi hj. pays i j (omega (arith, en)) (omega (arith, em)) }
-      where
-        pays : (i j : ℕ) → i < n → j < m → settlementOf own .pay i j ≡ payIn flown i j
-        pays i j hi hj = own-pair i j 2 _ hi hj (omega arith) refl ∙ l .payPerHour i j hi hj
-
-        hours : (d : Deal) (i j : ℕ) → i < t .growers → j < t .pilots →
-            settlementOf own .hours d i j ≡ settlementIn flown .hours d i j
-        hours Tariff i j hi hj =
-            own-pair i j 0 (3 + 3 * (i * m + j)) (omega (arith, en)) (omega (arith, em)) (omega arith) (omega arith)
-            ∙ l .tariffHours i j (omega (arith, en)) (omega (arith, em))
-        hours Free i j hi hj =
-            own-pair i j 1 _ (omega (arith, en)) (omega (arith, em)) (omega arith) refl
-            ∙ l .freeHours i j (omega (arith, en)) (omega (arith, em))
-
-    own-hours : Small n m (tariffIn flown) 128 → Small n m (freeIn flown) 128 → Small n m (payIn flown) 16384 → (q : ℕ) → q < n * m →
-        (getD own (3 + 3 * q) 0 < 128) × (getD own (4 + 3 * q) 0 < 128)
-    own-hours ht hf hp q h =
-        let w = inside n m q h in
-        let i = q / m in
-        let j = q % m in
-        let e : i * m + j ≡ q = div-add-mod' q m in
-        let t : getD own (3 + 3 * q) 0 ≡ tariffIn flown i j =
-        own-number (3 + 3 * q) (omega arith) ∙ ap (λ (p : ℕ). getD list (3 + 3 * p) 0) (sym e) ∙ l .tariffHours i j (w .grower) (w .pilot) in
-        let f : getD own (4 + 3 * q) 0 ≡ freeIn flown i j =
-        own-number (4 + 3 * q) (omega arith) ∙ ap (λ (p : ℕ). getD list p 0) (omega (arith, e)) ∙ l .freeHours i j (w .grower) (w .pilot) in
-        (omega (arith, t, ht i j (w .grower) (w .pilot)), omega (arith, f, hf i j (w .grower) (w .pilot)))
+    -- the file is short, since hours take one byte each
+    own-short : ((k i j : ℕ) → k < 2 → i < n → j < m → number k i j < 128) → length (pack own) ≤ 3 + 4 * (n * m)
+    own-short few = settlement-bytes n m own own-shape (omega arith) (omega arith) (λ q h.
+        let w = inside n m q h in (
+          omega (arith, at-place q 0 (3 + 3 * q) h (omega arith) (omega arith), few 0 (q / m) (q % m) (omega arith) (w .grower) (w .pilot)),
+          omega (arith, at-place q 1 (4 + 3 * q) h (omega arith) (omega arith), few 1 (q / m) (q % m) (omega arith) (w .grower) (w .pilot)),
+        ))
 
 -- A sound settlement of the ticket that a list means, written into a list: the front of that list is sound.
-pub sound-front : (xs : List ℕ) → IsTicket xs → (t : Ticket) → SameTicket t (ticketOf xs) → (flown : List (List Flown)) →
-    Sound t (settlementIn flown) → (list : List ℕ) → length list ≡ 771 → Listed (growersOf xs) (pilotsOf xs) flown list → SoundFront xs list
-sound-front xs is t same flown s list long l = record {
+pub sound-front : (xs : List ℕ) → IsTicket xs → (t : Ticket) → SameTicket t (ticketOf xs) → (tariffHours freeHours pay : Grid) →
+    Sound t (settlementIn tariffHours freeHours pay) → (list : List ℕ) → length list ≡ 771 →
+    Listed (growersOf xs) (pilotsOf xs) tariffHours freeHours pay list → SoundFront xs list
+sound-front xs is t same tariffHours freeHours pay s list long l = record {
   good = record { sound = sound; nobodyGains = nothing-blocks-iff (ticketOf xs) _ .0 (sound .nothingBlocks) };
-  shape = own-shape l long hn hm (wider (tariffIn flown) tariff-few) (wider (freeIn flown) free-few) pay-few;
-  hours = own-hours l long hn hm tariff-few free-few pay-few;
+  bytes = pack (settlementFront xs list);
+  packs = settlement-accepted (growersOf xs) (pilotsOf xs) (settlementFront xs list) (own-shape l long hn hm small) .0;
+  short = own-short l long hn hm small few;
 }
   where
     hn : growersOf xs ≤ 16
@@ -157,20 +122,18 @@ sound-front xs is t same flown s list long l = record {
     hm = limits is .pilots
 
     -- the squares are sound for the list's ticket itself
-    here : Sound (ticketOf xs) (settlementIn flown)
+    here : Sound (ticketOf xs) (settlementIn tariffHours freeHours pay)
     here = sound-same same (record { hours = λ d i j hi hj. refl; pay = λ i j hi hj. refl }) s
 
-    tariff-few : Small (growersOf xs) (pilotsOf xs) (tariffIn flown) 128
-    tariff-few i j hi hj = omega (arith, here .feasible .fits .deal Tariff i j hi hj, limits is .tariffCap i j hi hj)
+    few : (k i j : ℕ) → k < 2 → i < growersOf xs → j < pilotsOf xs → numberOf tariffHours freeHours pay k i j < 128
+    few zero i j hk hi hj = omega (arith, here .feasible .fits .deal Tariff i j hi hj, limits is .tariffCap i j hi hj)
+    few (suc zero) i j hk hi hj = omega (arith, here .feasible .fits .deal Free i j hi hj, limits is .freeCap i j hi hj)
+    few (suc (suc k)) i j hk hi hj = absurd (omega arith)
 
-    free-few : Small (growersOf xs) (pilotsOf xs) (freeIn flown) 128
-    free-few i j hi hj = omega (arith, here .feasible .fits .deal Free i j hi hj, limits is .freeCap i j hi hj)
+    small : (k i j : ℕ) → i < growersOf xs → j < pilotsOf xs → numberOf tariffHours freeHours pay k i j < 16384
+    small zero i j hi hj = omega (arith, few 0 i j (omega arith) hi hj)
+    small (suc zero) i j hi hj = omega (arith, few 1 i j (omega arith) hi hj)
+    small (suc (suc k)) i j hi hj = omega (arith, here .feasible .payInGain i j hi hj, limits is .jointGain i j hi hj)
 
-    pay-few : Small (growersOf xs) (pilotsOf xs) (payIn flown) 16384
-    pay-few i j hi hj = omega (arith, here .feasible .payInGain i j hi hj, limits is .jointGain i j hi hj)
-
-    wider : (f : ℕ → ℕ → ℕ) → Small (growersOf xs) (pilotsOf xs) f 128 → Small (growersOf xs) (pilotsOf xs) f 16384
-    wider f h i j hi hj = omega (arith, h i j hi hj)
-
-    sound : Sound (ticketOf xs) (settlementOf (take (settlementCount xs) list))
+    sound : Sound (ticketOf xs) (settlementOf (settlementFront xs list))
     sound = sound-same same (own-same l long hn hm t (sym (same .growers)) (sym (same .pilots))) s

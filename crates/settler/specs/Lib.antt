@@ -1,3 +1,3 @@
 pub mod Listing
 pub mod Settled
-pub mod FromList
+pub mod Numbers

@@ -1,30 +1,29 @@
 -- A settlement as a list of numbers, in the order of its file.
 -- Assumes nothing.
-use Prim.Native.Nat.{ℕ, _+_, _*_, _<_}
+use Prim.Native.Nat.{ℕ, zero, suc, _+_, _*_, _<_}
 use mathlib.Core.Path.{_≡_}
 use mathlib.Core.List.{List}
 use lib.ListN.{getD, length}
-use Rattle.method.specs.declared.Flown.{Flown}
-use Rattle.method.specs.Result.{flownAt}
+use Rattle.grid.specs.Grid.{Grid, at}
+
+-- the first, the second or the third of three numbers
+abbrev pub nth : ℕ → ℕ → ℕ → ℕ → ℕ
+nth x y z zero = x
+nth x y z (suc zero) = y
+nth x y z (suc (suc k)) = z
 
 -- three numbers were written into a list from a place on, and nothing else changed
 pub record Written (l l′ : List ℕ) (place x y z : ℕ) : Type 0 where
   pub long : length l′ ≡ length l
-  pub first : getD l′ place 0 ≡ x
-  pub second : getD l′ (place + 1) 0 ≡ y
-  pub third : getD l′ (place + 2) 0 ≡ z
+  pub there : (k : ℕ) → k < 3 → getD l′ (place + k) 0 ≡ nth x y z k
   pub before : (p : ℕ) → p < place → getD l′ p 0 ≡ getD l p 0
   pub after : (p : ℕ) → place + 2 < p → getD l′ p 0 ≡ getD l p 0
 
--- kind 2, growers and pilots
-pub record Headed (n m : ℕ) (l : List ℕ) : Type 0 where
-  pub kind : getD l 0 0 ≡ 2
-  pub growers : getD l 1 0 ≡ n
-  pub pilots : getD l 2 0 ≡ m
+-- the tariff hours, the free hours or the pay of a pair
+abbrev pub numberOf : Grid → Grid → Grid → ℕ → ℕ → ℕ → ℕ
+numberOf tariffHours freeHours pay k i j = nth (at tariffHours i j) (at freeHours i j) (at pay i j) k
 
--- then, for every pair in the ticket's order, tariff hours, free hours and pay
-pub record Listed (n m : ℕ) (flown : List (List Flown)) (l : List ℕ) : Type 0 where
-  pub head : Headed n m l
-  pub tariffHours : (i j : ℕ) → i < n → j < m → getD l (3 + 3 * (i * m + j)) 0 ≡ flownAt flown i j .«tariff_hours»
-  pub freeHours : (i j : ℕ) → i < n → j < m → getD l (3 + 3 * (i * m + j) + 1) 0 ≡ flownAt flown i j .«free_hours»
-  pub payPerHour : (i j : ℕ) → i < n → j < m → getD l (3 + 3 * (i * m + j) + 2) 0 ≡ flownAt flown i j .pay
+-- kind 2, growers and pilots; then, for every pair in the ticket's order, tariff hours, free hours and pay
+pub record Listed (n m : ℕ) (tariffHours freeHours pay : Grid) (l : List ℕ) : Type 0 where
+  pub head : (k : ℕ) → k < 3 → getD l k 0 ≡ nth 2 n m k
+  pub pairs : (k i j : ℕ) → k < 3 → i < n → j < m → getD l (3 + 3 * (i * m + j) + k) 0 ≡ numberOf tariffHours freeHours pay k i j

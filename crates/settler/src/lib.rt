@@ -1,28 +1,37 @@
 // The settling of a ticket's file: its numbers are read, the method settles the market that they mean, and the settlement is written.
 mod listing;
-mod terms;
 
 ghost use Rattle.reader.specs.Answer.{unpacked};
 ghost use Rattle.settler.specs.Settled.{Answers, Settled};
-ghost use Rattle.settler.specs.FromList.{IsTicket, SoundFront};
+ghost use Rattle.settler.specs.Numbers.{IsTicket, SoundFront};
 use reader::NO_ROOM;
 use reader::Reply;
+use tables::Quantity;
+use tables::square;
 
 // The numbers of a sound settlement of a ticket.
 fn sound_list(ticket: &[u16]) -> [u16; 771]
     requires { ⌜ IsTicket (now ticket) ⌝ }
     ensures { λ r. ⌜ SoundFront (now (ticket .entry)) r ⌝ }
 {
-    let growers = grid::index(grid::entry(ticket, 1));
-    let pilots = grid::index(grid::entry(ticket, 2));
-    let flown = method::settle_squares(
+    let growers = tables::growers(ticket);
+    let pilots = tables::pilots(ticket);
+    let mut tariff_hours = grid::zeros();
+    let mut free_hours = grid::zeros();
+    let pay = method::settle_squares(
         growers,
         pilots,
         tables::grower_hours(ticket),
         tables::pilot_hours(ticket),
-        terms::terms_square(ticket, growers, pilots),
+        square(ticket, Quantity::TariffCap),
+        square(ticket, Quantity::TariffGain),
+        square(ticket, Quantity::TariffPay),
+        square(ticket, Quantity::FreeCap),
+        square(ticket, Quantity::JointGain),
+        &mut tariff_hours,
+        &mut free_hours,
     );
-    listing::listed(growers, pilots, flown)
+    listing::listed(growers, pilots, tariff_hours, free_hours, pay)
 }
 
 // Settles a ticket's numbers into a lent buffer, which must have room for the longest settlement that the ticket could have.
@@ -30,8 +39,8 @@ fn settle_numbers(ticket: &[u16], settlement: &mut [u8]) -> Reply
     requires { ⌜ IsTicket (now ticket) ⌝ }
     ensures { λ r. ⌜ Answers (now (ticket .entry)) (now (settlement .entry)) (now (settlement .exit)) r ⌝ }
 {
-    let growers = grid::index(grid::entry(ticket, 1));
-    let pilots = grid::index(grid::entry(ticket, 2));
+    let growers = tables::growers(ticket);
+    let pilots = tables::pilots(ticket);
     let pairs = grid::pairs(growers, pilots);
     if settlement.len() < 3 + 4 * pairs {
         return Reply::Refused { why: NO_ROOM };

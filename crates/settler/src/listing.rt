@@ -3,7 +3,6 @@ ghost use mathlib.Core.Path.{_≡_};
 ghost use Prim.Native.Nat.{_+_, _<_, _≤_};
 ghost use lib.ListN.{length};
 ghost use Rattle.settler.specs.Listing.{Written, Listed};
-use method::Flown;
 
 // The kind of a file that is a settlement.
 const SETTLEMENT: u16 = 2;
@@ -27,21 +26,28 @@ fn write_three(list: &mut [u16; 771], place: usize, x: u16, y: u16, z: u16)
 }
 
 // The list of kind, growers and pilots, then for every pair its tariff hours, its free hours and the pay per free hour.
-pub(crate) fn listed(growers: usize, pilots: usize, flown: [[Flown; 16]; 16]) -> [u16; 771]
+pub(crate) fn listed(
+    growers: usize,
+    pilots: usize,
+    tariff_hours: [[u16; 16]; 16],
+    free_hours: [[u16; 16]; 16],
+    pay: [[u16; 16]; 16],
+) -> [u16; 771]
     requires { ⌜ (growers ≤ 16) × (pilots ≤ 16) ⌝ }
-    ensures { λ r. ⌜ (length r ≡ 771) × Listed growers pilots flown r ⌝ }
+    ensures { λ r. ⌜ (length r ≡ 771) × Listed growers pilots «tariff_hours» «free_hours» pay r ⌝ }
 {
     let mut list = tables::settlement_list();
     write_three(&mut list, 0, SETTLEMENT, count(growers), count(pilots));
     let pairs = growers * pilots;
     for k in 0..pairs {
-        let pair = flown[k / pilots][k % pilots];
+        let i = k / pilots;
+        let j = k % pilots;
         write_three(
             &mut list,
             3 + 3 * k,
-            pair.tariff_hours,
-            pair.free_hours,
-            pair.pay,
+            tariff_hours[i][j],
+            free_hours[i][j],
+            pay[i][j],
         );
     }
     list

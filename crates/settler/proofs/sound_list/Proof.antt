@@ -1,49 +1,43 @@
 -- `settler::sound_list` meets its contract.
 -- Assumes nothing.
-use Prim.Native.Nat.{_≤_}
-use mathlib.Core.Path.{_≡_, _∙_}
+use Prim.Native.Nat.{_≤_, min}
 use native.Mathlib.Omega.{arith}
-use Rattle.tables.specs.View.{growersOf, pilotsOf}
-use Rattle.settler.specs.FromList.{Tables}
-use Rattle.settler.proofs.TicketTables.{few-growers, few-pilots, tables-same}
+use Rattle.tables.proofs.Meaning.{ticket-same}
+use Rattle.settler.proofs.TicketLimits.{limits}
 use Rattle.settler.proofs.SettlementNumbers.{sound-front}
 use borrow.Author.Needs.{needs}
 use Rattle.settler.proofs.sound_list.Statement.{statement}
 use Rattle.settler.proofs.sound_list.Tie as tie
 
--- the growers and pilots of the list
-growers-are : (c : tie.After-index2) → c .before .before .index .result ≡ growersOf (c .before .before .before .before .before .args .ticket .now)
-growers-are c = c .before .before .index .ensures .0 ∙ c .before .before .before .entry .ensures
-
-pilots-are : (c : tie.After-index2) → c .index2 .result ≡ pilotsOf (c .before .before .before .before .before .args .ticket .now)
-pilots-are c = c .index2 .ensures .0 ∙ c .before .entry2 .ensures
-
-few : (c : tie.After-index2) → (c .before .before .index .result ≤ 16) × (c .index2 .result ≤ 16)
+few : (c : tie.After-pilots) → (c .before .growers .result ≤ 16) × (c .pilots .result ≤ 16)
 few c =
-    let is = c .before .before .before .before .before .pre in
-    (omega (arith, growers-are c, few-growers is), omega (arith, pilots-are c, few-pilots is))
-
-terms-square-requires : tie.Need-terms-square-requires
-terms-square-requires c κs = few (c .before .before)
+    let t = limits (c .before .before .before .pre) in
+    (omega (arith, c .before .growers .ensures .0, t .growers), omega (arith, c .pilots .ensures .0, t .pilots))
 
 listed-requires : tie.Need-listed-requires
-listed-requires c κs = few (c .before .before .before .before)
+listed-requires c κs = few (c .before .before .before .before .before .before .before .before .before .before .before .before)
 
 returns : tie.Need-returns
-returns c = let is = c .before .before .before .before .before .before .before .before .before .before .pre in
-    let g = growers-are (c .before .before .before .before .before) in
-    let p = pilots-are (c .before .before .before .before .before) in
-    let t : Tables (c .before .before .before .before .before .before .before .before .before .before .args .ticket .now) (c .before .before .before .before .grower-hours .result) (c .before .before .before .pilot-hours .result) (c .before .before .terms-square .result) = record {
-      growers = c .before .before .before .before .grower-hours .ensures;
-      pilots = c .before .before .before .pilot-hours .ensures;
-      pairs = rw (g, p) at (c .before .before .terms-square .ensures);
-    } in
-    sound-front _ is _ (tables-same is t g p)
-    (c .before .settle-squares .result)
-    (c .before .settle-squares .ensures)
-    (c .listed .result)
-    (c .listed .ensures .0)
-    (rw (g, p) at (c .listed .ensures .1))
+returns c =
+    let q = c .before .before .before .before in
+    let h = q .before .before .before .before .before .before in
+    let p = h .before .before .before in
+    let s = p .before .before .before in
+    let eg = p .before .growers .ensures .0 in
+    let ep = p .pilots .ensures .0 in
+    let f = few p in
+    let same = ticket-same (s .args .ticket .now) (min 16 (p .before .growers .result)) (min 16 (p .pilots .result))
+    (omega (arith, eg)) (omega (arith, ep)) (omega arith) (omega arith) (record {
+      growerHoursIn = h .grower-hours .ensures;
+      pilotHoursIn = q .before .before .before .before .before .pilot-hours .ensures;
+      tariffCapIn = q .before .before .before .before .square .ensures;
+      tariffGainIn = q .before .before .before .square2 .ensures;
+      tariffPayIn = q .before .before .square3 .ensures;
+      freeCapIn = q .before .square4 .ensures;
+      jointGainIn = q .square5 .ensures;
+    }) in
+    sound-front _ (s .pre) _ same _ _ _ (c .before .settle-squares .ensures .0) (c .listed .result) (c .listed .ensures .0)
+    (rw (eg, ep) at (c .listed .ensures .1))
 
 pub sound-list-spec : {M : Type 1} → statement M
 sound-list-spec =
@@ -55,7 +49,11 @@ sound-list-spec =
     (λ c κs. search needs)
     (λ c κs. search needs)
     (λ c κs. search needs)
-    terms-square-requires
+    (λ c κs. search needs)
+    (λ c κs. search needs)
+    (λ c κs. search needs)
+    (λ c κs. search needs)
+    (λ c κs. search needs)
     (λ c κs. search needs)
     listed-requires
     returns)

@@ -5,6 +5,7 @@ use mathlib.Core.Path.{_≡_, refl, sym}
 use mathlib.Core.List.{List}
 use mathlib.Core.Logic.{⊎-elim}
 use native.Mathlib.Omega.{arith}
+use Rattle.market.specs.declared.Deal.the-variants.{Free}
 use Rattle.market.specs.Method.{slotFor}
 use Rattle.market.specs.Steps.{Added}
 use Rattle.market.proofs.Adding.{never-less}
@@ -19,7 +20,7 @@ use Rattle.method.specs.Changes.{Full, putCell}
 use Rattle.method.proofs.Asking.{asks-in}
 use Rattle.method.proofs.LateSearch.{NoneLate, none-late-start, none-late-more, no-late-hour, late-hours-found}
 use Rattle.method.proofs.HourChanges.{put-more, put-fewer}
-use Rattle.method.proofs.TurnLaws.{free-hours-fit, room-fits, turn-add, turn-move, turn-raise, raised, live-start}
+use Rattle.method.proofs.TurnLaws.{hours-fit, room-fits, turn-add, turn-move, turn-raise, raised, live-start}
 use Rattle.method.proofs.PilotHours.{free-start, free-added, free-moved, free-kept}
 use Rattle.method.proofs.Rounds.{Working, left, work-starts, next-grower, work-ends, left-less}
 use Rattle.method.proofs.JumpTurns.{turn-jump}
@@ -293,7 +294,7 @@ rise-requires c κs = let search-at = c .before .before in
     let live = still search-at .live in
     let w = still-want search-at .0 in (
       (live .full, fit .growers, fit .pilots, w .pilot),
-      (live .low, λ i hi. free-hours-fit _ _ _ fit live i _ hi (w .pilot)),
+      (live .low, λ i hi. hours-fit _ _ _ fit live Free i _ hi (w .pilot)),
     )
 
 turns-less-4 : tie.Need-turns-less-4 Inv-loop μ-loop Inv-turns μ-turns
