@@ -26,7 +26,7 @@ use Rattle.reader.proofs.WalkLaws.{form-accepts}
 use Rattle.reader.proofs.TicketLaws.{shape}
 use Rattle.reader.proofs.Facts.{unpacked-shape, settlement-shape}
 use Rattle.tables.specs.View.{growersOf, pilotsOf}
-use Rattle.settler.specs.Settled.{SettledIn, Answers, Settled, roomFor}
+use Rattle.settler.specs.Settled.{SettledIn, Answers, settledAs, Settled, roomFor}
 use Rattle.sheets.specs.Sheeted.{roomForSheet, Sheeted}
 use Rattle.sheets.proofs.PrintLaws.{sheet-short, room-in-page}
 use Rattle.exchange_c.specs.Replies.{replyNumber, replyOf, Small, NumberOf}
@@ -98,7 +98,7 @@ settlement-short n m s xs hn hm e =
       prod-small n m hn hm,
     )
 
-settled-short : (t xs lent after : List ℕ) (count : ℕ) → unpacked t ≡ Numbers xs → length after ≡ length lent → SettledIn xs lent after count →
+settled-short : (t xs lent after : List ℕ) (count : ℕ) → unpacked t ≡ Numbers xs → length after ≡ length lent → SettledIn t xs lent after count →
     count ≤ 1542
 settled-short t xs lent after count e same s =
     let h = unpacked-shape t xs e in
@@ -109,16 +109,16 @@ settled-short t xs lent after count e same s =
     )
 
 -- A settlement is short whatever buffer was lent.
-pub settle-small : (t lent after : List ℕ) (r : Reply) → length after ≡ length lent → Settled (unpacked t) lent after r → Small r
+pub settle-small : (t lent after : List ℕ) (r : Reply) → length after ≡ length lent → Settled t lent after r → Small r
 settle-small t lent after r same s = go (unpacked t) refl s
   where
-    answers : (xs : List ℕ) → unpacked t ≡ Numbers xs → Answers xs lent after r → Small r
+    answers : (xs : List ℕ) → unpacked t ≡ Numbers xs → Answers t xs lent after r → Small r
     answers xs e a = ⊎-elim
         (λ h. rw (a .short h .0 .reply) tt)
         (λ h. let d = a .settled h in rw (d .1 .reply) (omega (arith, settled-short t xs lent after (d .0) e same (d .2))))
         (lt-or-le (length lent) (roomFor xs))
 
-    go : (o : Outcome) → unpacked t ≡ o → Settled o lent after r → Small r
+    go : (o : Outcome) → unpacked t ≡ o → settledAs t o lent after r → Small r
     go (Refusal w) e s = rw (s .0 .reply) tt
     go (Numbers xs) e s = answers xs e s
 
@@ -137,7 +137,7 @@ pub pack-told : (room : ℕ) (list : List ℕ) → replyOf (replyNumber (reply r
 pack-told room list = number-tells (reply room (packed list)) (pack-small room list)
 
 pub settle-told : (t lent after : List ℕ) (number : ℕ) → length after ≡ length lent →
-    NumberOf (Settled (unpacked t) lent after) number → Settled (unpacked t) lent after (replyOf number)
+    NumberOf (Settled t lent after) number → Settled t lent after (replyOf number)
 settle-told t lent after number same a =
     rw (a .same, number-tells (a .reply) (settle-small t lent after (a .reply) same (a .allowed))) (a .allowed)
 

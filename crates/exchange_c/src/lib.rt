@@ -35,7 +35,7 @@ pub extern "C" fn exchange_pack(list: &[u16], ticket: &mut [u8]) -> u32
 // `settler::settle`: the length of a sound settlement in bytes, or a refusal.
 #[no_mangle]
 pub extern "C" fn exchange_settle(ticket: &[u8], settlement: &mut [u8]) -> u32
-    ensures { λ r. ⌜ NumberOf (Settled (unpacked (now (ticket .entry))) (now (settlement .entry)) (now (settlement .exit))) r ⌝ }
+    ensures { λ r. ⌜ NumberOf (Settled (now (ticket .entry)) (now (settlement .entry)) (now (settlement .exit))) r ⌝ }
 {
     reply_number(settler::settle(ticket, settlement))
 }

@@ -13,11 +13,9 @@ use Rattle.reader.specs.Answer.{unpacked, settlementRead, settlementPacked, rep
 use Rattle.reader.proofs.Facts.{unpacked-shape, settlement-packed-read, reply-with-room, kept-with-room, reply-refused}
 use Rattle.reader.proofs.Telling.{refuses, counts}
 use Rattle.tables.specs.View.{growersOf, pilotsOf}
-use Rattle.marker.specs.declared.Verdict.{Verdict}
-use Rattle.marker.specs.Marked.{marked}
 use Rattle.marker.proofs.Marking.{sound-files-marked}
 use Rattle.settler.specs.Settled.{roomFor, SettledIn, Answers, Settled}
-use Rattle.settler.specs.Numbers.{settlementFront, SoundFront}
+use Rattle.settler.specs.Numbers.{AnswersNumbers, settlementFront, SoundFront}
 
 module _ (xs list lent after : List ℕ) (r : Reply) (f : SoundFront xs list) (room : roomFor xs ≤ length lent)
     (answered : r ≡ reply (length lent) (settlementPacked (growersOf xs) (pilotsOf xs) (settlementFront xs list)))
@@ -34,22 +32,24 @@ module _ (xs list lent after : List ℕ) (r : Reply) (f : SoundFront xs list) (r
       ∙ ap (settlementRead (growersOf xs) (pilotsOf xs)) (take-at (f .bytes) (drop (length (f .bytes)) lent) (length (f .bytes)) refl)
       ∙ settlement-packed-read (growersOf xs) (pilotsOf xs) (settlementFront xs list) (f .bytes) (f .packs)
 
-  settled-in : SettledIn xs lent after (length (f .bytes))
-  settled-in = record {
+  settled-in : (ticket : List ℕ) → unpacked ticket ≡ Numbers xs → SettledIn ticket xs lent after (length (f .bytes))
+  settled-in ticket e = record {
     within = fits;
     numbers = settlementFront xs list;
     file = read;
     good = f .good;
+    marks = sound-files-marked ticket (take (length (f .bytes)) after)
+        (record { numbers = xs; answer = settlementFront xs list; isTicket = e; isSettlement = read; sound = f .good .sound });
     rest = ap (drop (length (f .bytes))) front ∙ drop-append-seam (f .bytes) (drop (length (f .bytes)) lent);
   }
 
-  settled-answers : Answers xs lent after r
-  settled-answers = record {
+  settled-answers : AnswersNumbers xs lent after r
+  settled-answers ticket e = record {
     short = λ h. absurd (omega arith);
     settled = λ _. (
       length (f .bytes),
       counts r _ (answered ∙ ap (reply (length lent)) (f .packs) ∙ reply-with-room (length lent) (f .bytes) fits),
-      settled-in,
+      settled-in ticket e,
     );
   }
 
@@ -57,7 +57,7 @@ module _ (xs list lent after : List ℕ) (r : Reply) (f : SoundFront xs list) (r
 pub written-answers : (xs list own lent after : List ℕ) (r : Reply) (growers pilots pairs : ℕ) → SoundFront xs list →
     growers ≡ growersOf xs → pilots ≡ pilotsOf xs → pairs ≡ growers * pilots → own ≡ take (3 + 3 * pairs) list →
     3 + 4 * pairs ≤ length lent → r ≡ reply (length lent) (settlementPacked growers pilots own) →
-    after ≡ kept lent (settlementPacked growers pilots own) → Answers xs lent after r
+    after ≡ kept lent (settlementPacked growers pilots own) → AnswersNumbers xs lent after r
 written-answers xs list own lent after r growers pilots pairs f eg ep e cut room answered left =
     settled-answers xs list lent after r f (omega (arith, room, count)) (answered ∙ ap (reply (length lent)) same) (left ∙ ap (kept lent) same)
   where
@@ -68,28 +68,17 @@ written-answers xs list own lent after r growers pilots pairs f eg ep e cut room
     same = rw (eg, ep, cut, count)
 
 pub room-answers : (xs lent : List ℕ) (growers pilots pairs : ℕ) → growers ≡ growersOf xs → pilots ≡ pilotsOf xs →
-    pairs ≡ growers * pilots → length lent < 3 + 4 * pairs → Answers xs lent lent (Reply.Refused noRoom)
-room-answers xs lent growers pilots pairs eg ep e h =
+    pairs ≡ growers * pilots → length lent < 3 + 4 * pairs → AnswersNumbers xs lent lent (Reply.Refused noRoom)
+room-answers xs lent growers pilots pairs eg ep e h ticket _ =
     let count : pairs ≡ growersOf xs * pilotsOf xs = e ∙ rw (eg, ep) in
-    record { short = λ _. (refl, refl); settled = λ l. absurd (omega (arith, count)) }
+    record { short = λ _. (refuses _ noRoom refl, refl); settled = λ l. absurd (omega (arith, count)) }
 
 -- From the ticket's bytes: what was refused, and what was unpacked.
 pub refused-settles : (s zeros lent : List ℕ) (w : ℕ) → length zeros ≡ 1315 → Reply.Refused w ≡ reply (length zeros) (unpacked s) →
-    Settled (unpacked s) lent lent (Reply.Refused w)
+    Settled s lent lent (Reply.Refused w)
 refused-settles s zeros lent w long e =
     rw (reply-refused (length zeros) (unpacked s) w (λ xs f. omega (arith, unpacked-shape s xs f .few, long)) e) (refuses _ w refl, refl)
 
-pub answers-settle : (s list lent after : List ℕ) (r : Reply) → unpacked s ≡ Numbers list → Answers list lent after r →
-    Settled (unpacked s) lent after r
+pub answers-settle : (s list lent after : List ℕ) (r : Reply) → unpacked s ≡ Numbers list → Answers s list lent after r →
+    Settled s lent after r
 answers-settle s list lent after r e a = rw e a
-
--- What settling wrote is marked sound, with all deals counted.
-pub settled-marks-sound : (t xs lent after : List ℕ) (count : ℕ) → unpacked t ≡ Numbers xs → SettledIn xs lent after count →
-    marked t (take count after) ≡ Verdict.Sound (2 * (growersOf xs * pilotsOf xs))
-settled-marks-sound t xs lent after count e s = sound-files-marked t (take count after) (record {
-  numbers = xs;
-  answer = s .numbers;
-  isTicket = e;
-  isSettlement = s .file;
-  sound = s .good .sound;
-})

@@ -4,15 +4,20 @@ use Prim.Native.Nat.{ℕ, _+_, _*_, _≤_}
 use mathlib.Core.Path.{_≡_}
 use mathlib.Core.List.{List}
 use lib.ListN.{length, take}
+use Rattle.reader.specs.declared.Reply.{Reply}
 use Rattle.reader.specs.Walk.{Numbers}
 use Rattle.reader.specs.Answer.{unpacked, settlementPacked}
 use Rattle.tables.specs.View.{growersOf, pilotsOf}
-use Rattle.settler.specs.Settled.{SoundNumbers, roomFor}
+use Rattle.settler.specs.Settled.{SoundNumbers, roomFor, Answers}
 
 -- xs are the numbers of a ticket that passes its checks
 pub record IsTicket (xs : List ℕ) : Type 0 where
   pub bytes : List ℕ
   pub from : unpacked bytes ≡ Numbers xs
+
+-- an answer to every ticket of those numbers
+abbrev pub AnswersNumbers : List ℕ → List ℕ → List ℕ → Reply → Type 0
+AnswersNumbers xs lent after r = (ticket : List ℕ) → unpacked ticket ≡ Numbers xs → Answers ticket xs lent after r
 
 -- the front of a list, as long as a settlement of the ticket xs
 abbrev pub settlementFront : List ℕ → List ℕ → List ℕ

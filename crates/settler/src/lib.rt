@@ -1,9 +1,8 @@
 // The settling of a ticket's file: its numbers are read, the method settles the market that they mean, and the settlement is written.
 mod listing;
 
-ghost use Rattle.reader.specs.Answer.{unpacked};
-ghost use Rattle.settler.specs.Settled.{Answers, Settled};
-ghost use Rattle.settler.specs.Numbers.{IsTicket, SoundFront};
+ghost use Rattle.settler.specs.Settled.{Settled};
+ghost use Rattle.settler.specs.Numbers.{IsTicket, AnswersNumbers, SoundFront};
 use reader::NO_ROOM;
 use reader::Reply;
 use tables::Quantity;
@@ -37,7 +36,7 @@ fn sound_list(ticket: &[u16]) -> [u16; 771]
 // Settles a ticket's numbers into a lent buffer, which must have room for the longest settlement that the ticket could have.
 fn settle_numbers(ticket: &[u16], settlement: &mut [u8]) -> Reply
     requires { ⌜ IsTicket (now ticket) ⌝ }
-    ensures { λ r. ⌜ Answers (now (ticket .entry)) (now (settlement .entry)) (now (settlement .exit)) r ⌝ }
+    ensures { λ r. ⌜ AnswersNumbers (now (ticket .entry)) (now (settlement .entry)) (now (settlement .exit)) r ⌝ }
 {
     let growers = tables::growers(ticket);
     let pilots = tables::pilots(ticket);
@@ -56,7 +55,7 @@ fn settle_numbers(ticket: &[u16], settlement: &mut [u8]) -> Reply
 
 // Writes a sound settlement of a ticket at the front of a lent buffer, and returns its length in bytes.
 pub fn settle(ticket: &[u8], settlement: &mut [u8]) -> Reply
-    ensures { λ r. ⌜ Settled (unpacked (now (ticket .entry))) (now (settlement .entry)) (now (settlement .exit)) r ⌝ }
+    ensures { λ r. ⌜ Settled (now (ticket .entry)) (now (settlement .entry)) (now (settlement .exit)) r ⌝ }
 {
     let mut numbers = tables::ticket_list();
     let reply = reader::unpack(ticket, &mut numbers);

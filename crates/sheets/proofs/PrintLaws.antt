@@ -88,8 +88,8 @@ module _ {ticket xs file : List ℕ} (f : SoundFile ticket xs file) (n m : ℕ) 
 
 -- The ticket is settled: no refusal, and what was written is the file of a sound settlement.
 module _ (ticket xs lent after : List ℕ) (r : Reply) (e : unpacked ticket ≡ Numbers xs) (long : length lent ≡ 1027)
-    (s : Settled (unpacked ticket) lent after r) where
-  settles : (count : ℕ) × Counts r count × SettledIn xs lent after count
+    (s : Settled ticket lent after r) where
+  settles : (count : ℕ) × Counts r count × SettledIn ticket xs lent after count
   settles =
       let a = rw e at s in
       let h = unpacked-shape ticket xs e in
@@ -102,7 +102,7 @@ module _ (ticket xs lent after : List ℕ) (r : Reply) (e : unpacked ticket ≡ 
     same-count : settles .0 ≡ count
     same-count = let d = settles .1 .reply in cc
 
-    inside : SettledIn xs lent after count
+    inside : SettledIn ticket xs lent after count
     inside = rw same-count at (settles .2)
 
     pub settlement-sound : SoundFile ticket xs (take count after)

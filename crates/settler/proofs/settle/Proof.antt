@@ -26,7 +26,9 @@ returns c =
     refused-settles _ (c .before .before .before .before .before .before .ticket-list .result) _ _ (c .before .before .before .before .before .before .ticket-list .ensures .1) (sym (c .before .reply .given .1) ∙ u .ensures .0 .reply)
 
 returns-2 : tie.Need-returns-2
-returns-2 c = answers-settle _ _ _ _ _ (numbers-are (c .before .before .before .before)) (c .before .before .settle-numbers .ensures)
+returns-2 c =
+    let e = numbers-are (c .before .before .before .before) in
+    answers-settle _ _ _ _ _ e (c .before .before .settle-numbers .ensures _ e)
 
 pub settle-spec : {M : Type 1} → statement M
 settle-spec =
