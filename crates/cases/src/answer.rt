@@ -40,25 +40,17 @@ fn is_free(deal: Deal) -> bool {
 }
 
 pub(crate) fn judged(answer: Verdict) {
-    match answer {
-        Verdict::Refused { why } => refused(why),
-        Verdict::Sound { count } => verdict(1, 0, 0, false, count),
-        Verdict::TariffOverCap { grower, pilot } => verdict(2, grower, pilot, false, 0),
-        Verdict::FreeOverCap { grower, pilot } => verdict(3, grower, pilot, true, 0),
-        Verdict::WrongPay { grower, pilot } => verdict(4, grower, pilot, true, 0),
-        Verdict::GrowerOverHours { grower } => verdict(5, grower, 0, false, 0),
-        Verdict::PilotOverHours { pilot } => verdict(6, 0, pilot, false, 0),
-        Verdict::Idle {
-            grower,
-            pilot,
-            deal,
-            count,
-        } => verdict(7, grower, pilot, is_free(deal), count),
-        Verdict::Blocks {
-            grower,
-            pilot,
-            deal,
-            count,
-        } => verdict(8, grower, pilot, is_free(deal), count),
+    let values = marker::values_of(answer);
+    let deal = values.deal;
+    if values.verdict == 0 {
+        refused(values.refusal);
+        return;
     }
+    verdict(
+        values.verdict as usize,
+        values.grower,
+        values.pilot,
+        is_free(deal),
+        values.count,
+    );
 }

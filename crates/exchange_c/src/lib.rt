@@ -6,7 +6,7 @@ mod replies;
 ghost use mathlib.Core.Path.{_≡_};
 ghost use lib.ListN.{length};
 ghost use Rattle.reader.specs.Answer.{unpacked, packed, reply, kept};
-ghost use Rattle.marker.specs.Marked.{marked};
+ghost use Rattle.marker.specs.Marked.{markedValues};
 ghost use Rattle.settler.specs.Settled.{Settled};
 ghost use Rattle.sheets.specs.Sheeted.{Sheeted};
 ghost use Rattle.exchange_c.specs.Replies.{replyNumber, NumberOf};
@@ -51,7 +51,7 @@ pub extern "C" fn exchange_sheet(ticket: &[u8], text: &mut [u8]) -> u32
 // `marker::mark`: the verdict on a settlement with its places and count, or a refusal.
 #[no_mangle]
 pub extern "C" fn exchange_mark(ticket: &[u8], settlement: &[u8]) -> u64
-    ensures { λ r. ⌜ r ≡ markNumber (marked (now (ticket .entry)) (now (settlement .entry))) ⌝ }
+    ensures { λ r. ⌜ r ≡ markNumber (markedValues (now (ticket .entry)) (now (settlement .entry))) ⌝ }
 {
-    mark_number(marker::mark(ticket, settlement))
+    mark_number(marker::values_of(marker::mark(ticket, settlement)))
 }

@@ -1,8 +1,10 @@
-// The number of a verdict: its fields side by side.
+// The number of a verdict: its values side by side.
 ghost use mathlib.Core.Path.{_≡_};
-ghost use Prim.Native.Nat.{_^_, _<_};
-ghost use Rattle.exchange_c.specs.Marks.{dealNumber, fields, markNumber, Fits};
-use marker::Verdict;
+ghost use Prim.Native.Nat.{_<_};
+ghost use Rattle.marker.specs.Values.{Bounded};
+ghost use Rattle.marker.specs.Verdict.{dealNumber};
+ghost use Rattle.exchange_c.specs.Marks.{markNumber};
+use marker::Values;
 use market::Deal;
 
 // What one unit of each field weighs.
@@ -25,40 +27,13 @@ fn deal_number(deal: Deal) -> u64
     }
 }
 
-// The number of a verdict that is no refusal.
-fn verdict_fields(verdict: u64, grower: usize, pilot: usize, deal: Deal, count: usize) -> u64
-    requires { ⌜ (verdict < 2 ^ 8) × (grower < 2 ^ 8) × (pilot < 2 ^ 8) × (count < 2 ^ 24) ⌝ }
-    ensures { λ r. ⌜ r ≡ fields verdict grower pilot (dealNumber deal) count 0 ⌝ }
+pub(crate) fn mark_number(values: Values) -> u64
+    requires { ⌜ Bounded values ⌝ }
+    ensures { λ r. ⌜ r ≡ markNumber values ⌝ }
 {
-    let places = grower as u64 * GROWER + pilot as u64 * PILOT + deal_number(deal) * DEAL;
-    verdict + places + count as u64 * COUNT
-}
-
-pub(crate) fn mark_number(verdict: Verdict) -> u64
-    requires { ⌜ Fits verdict ⌝ }
-    ensures { λ r. ⌜ r ≡ markNumber verdict ⌝ }
-{
-    match verdict {
-        Verdict::Refused { why } => why as u64 * REFUSAL,
-        Verdict::Sound { count } => verdict_fields(1, 0, 0, Deal::Tariff, count),
-        Verdict::TariffOverCap { grower, pilot } => {
-            verdict_fields(2, grower, pilot, Deal::Tariff, 0)
-        }
-        Verdict::FreeOverCap { grower, pilot } => verdict_fields(3, grower, pilot, Deal::Free, 0),
-        Verdict::WrongPay { grower, pilot } => verdict_fields(4, grower, pilot, Deal::Free, 0),
-        Verdict::GrowerOverHours { grower } => verdict_fields(5, grower, 0, Deal::Tariff, 0),
-        Verdict::PilotOverHours { pilot } => verdict_fields(6, 0, pilot, Deal::Tariff, 0),
-        Verdict::Idle {
-            grower,
-            pilot,
-            deal,
-            count,
-        } => verdict_fields(7, grower, pilot, deal, count),
-        Verdict::Blocks {
-            grower,
-            pilot,
-            deal,
-            count,
-        } => verdict_fields(8, grower, pilot, deal, count),
-    }
+    let deal = values.deal;
+    let parties = values.grower as u64 * GROWER + values.pilot as u64 * PILOT;
+    let places = parties + deal_number(deal) * DEAL;
+    let answer = values.verdict as u64 + values.refusal as u64 * REFUSAL;
+    answer + places + values.count as u64 * COUNT
 }

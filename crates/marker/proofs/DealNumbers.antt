@@ -1,6 +1,6 @@
 -- Deals by their number: 0 is the tariff deal, 1 the free deal.
 -- Assumes nothing.
-use Prim.Native.Nat.{ℕ, _<_}
+use Prim.Native.Nat.{_<_}
 use mathlib.Core.Path.{_≡_, refl}
 use lib.Dec.{lit<}
 use Rattle.market.specs.declared.Deal.{Deal}

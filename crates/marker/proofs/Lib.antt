@@ -9,3 +9,4 @@ pub mod Views
 pub mod Verdicts
 pub mod SameVerdicts
 pub mod Marking
+pub mod ValueBounds

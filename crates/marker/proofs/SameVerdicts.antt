@@ -22,8 +22,8 @@ use Rattle.tables.specs.View.{growersOf, pilotsOf, ticketOf, settlementOf, Hold
 use Rattle.tables.proofs.Meaning.{ticket-same, settlement-same}
 use Rattle.marker.specs.declared.Verdict.{Verdict}
 use Rattle.marker.specs.declared.Verdict.the-variants.{Sound, GrowerOverHours, PilotOverHours, Idle, Blocks}
-use Rattle.marker.specs.Verdict.{byPair, walk, pairs, wrongPair, pairVerdict, pairFaultAt, growerOver, pilotOver, freeOfGrower, freeOfPilot}
-use Rattle.marker.specs.Verdict.{growerSpare, pilotSpare, idle, blocks, wrongDeal, dealAt, dealVerdict, dealFaultAt, dealVerdictAt}
+use Rattle.marker.specs.Verdict.{byPair, walk, pairs, wrongPair, pairVerdict, freeOfGrower, freeOfPilot}
+use Rattle.marker.specs.Verdict.{growerSpare, pilotSpare, idle, blocks, wrongDeal, dealAt, dealVerdict}
 use Rattle.marker.specs.Verdict.{dealsJudged, hoursJudged, judged}
 use Rattle.marker.proofs.Spares.{spare-same}
 use Rattle.marker.proofs.Walks.{first-same}

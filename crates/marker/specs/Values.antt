@@ -1,7 +1,7 @@
 -- The paper's number and values of each verdict. A refusal has a number of its own. Places that a verdict has no use for are 0, and the
 -- deal is then tariff; verdicts 3 and 4 name the free deal. The count is the number of deals looked at in the last walk.
 -- Assumes nothing.
-use Prim.Native.Nat.{ℕ}
+use Prim.Native.Nat.{ℕ, _≤_, _<_}
 use Rattle.market.specs.declared.Deal.{Deal}
 use Rattle.market.specs.declared.Deal.the-variants.{Tariff, Free}
 use Rattle.marker.specs.declared.Values.{Values}
@@ -34,3 +34,10 @@ verdictNumber v = valuesOf v .verdict
 
 abbrev pub verdictCount : Verdict → ℕ
 verdictCount v = valuesOf v .count
+
+-- how large the values of a verdict on files may be: at most 16 growers, 16 pilots and 512 deals
+pub record Bounded (v : Values) : Type 0 where
+  pub verdict : v .verdict ≤ 8
+  pub grower : v .grower < 16
+  pub pilot : v .pilot < 16
+  pub count : v .count ≤ 512

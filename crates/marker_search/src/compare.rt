@@ -28,29 +28,17 @@ fn number_of(deal: Deal) -> usize {
     }
 }
 
-// The marker's verdict by its number. A refusal has none, and the plain search never answers 0.
+// The marker's verdict by its values on paper. A refusal has the verdict 0, which the plain search never answers.
 fn answer(verdict: Verdict) -> Answer {
-    match verdict {
-        Verdict::Refused { why } => found(0, 0, 0, 0, 0),
-        Verdict::Sound { count } => found(1, 0, 0, 0, count),
-        Verdict::TariffOverCap { grower, pilot } => found(2, grower, pilot, 0, 0),
-        Verdict::FreeOverCap { grower, pilot } => found(3, grower, pilot, 1, 0),
-        Verdict::WrongPay { grower, pilot } => found(4, grower, pilot, 1, 0),
-        Verdict::GrowerOverHours { grower } => found(5, grower, 0, 0, 0),
-        Verdict::PilotOverHours { pilot } => found(6, 0, pilot, 0, 0),
-        Verdict::Idle {
-            grower,
-            pilot,
-            deal,
-            count,
-        } => found(7, grower, pilot, number_of(deal), count),
-        Verdict::Blocks {
-            grower,
-            pilot,
-            deal,
-            count,
-        } => found(8, grower, pilot, number_of(deal), count),
-    }
+    let values = marker::values_of(verdict);
+    let deal = values.deal;
+    found(
+        values.verdict,
+        values.grower,
+        values.pilot,
+        number_of(deal),
+        values.count,
+    )
 }
 
 fn same(a: Answer, b: Answer) -> bool {

@@ -18,7 +18,8 @@ use Rattle.tables.specs.declared.Quantity.the-variants.{TariffCap, TariffGain, 
 use Rattle.tables.specs.declared.Quantity.the-variants.{TariffHours, FreeHours, Pay}
 use Rattle.marker.specs.declared.Verdict.{Verdict}
 use Rattle.tables.specs.View.{growersOf, pilotsOf, quantityOf, ticketOf, settlementOf}
-use Rattle.marker.specs.Verdict.{judged, verdictCount}
+use Rattle.marker.specs.Verdict.{judged}
+use Rattle.marker.specs.Values.{verdictCount}
 use Rattle.marker.specs.Marked.{marked}
 use Rattle.marker.proofs.Marking.{sound-files-marked}
 use Rattle.sheets.specs.Writing.{pageBytes, Wrote}

@@ -4,6 +4,7 @@ use mathlib.Core.Path.{_≡_, refl}
 use mathlib.Core.List.{[], _∷_}
 use Rattle.market.specs.declared.Deal.the-variants.{Free}
 use Rattle.marker.specs.declared.Verdict.the-variants.{Refused, Blocks}
+use Rattle.marker.specs.Values.{valuesOf}
 use Rattle.sheets.specs.Decimal.{decimal}
 use Rattle.texts.specs.NumberText.{WrongLine, Listed, readFrom, numbersOf}
 use Rattle.texts.specs.MarkLine.{markLine}
@@ -29,11 +30,11 @@ unfolding readFrom
 comma = refl
 
 -- `MARK 8 0 1 free 4`
-pub blocks : markLine (Blocks 0 1 Free 4) ≡ 77 ∷ 65 ∷ 82 ∷ 75 ∷ 32 ∷ 56 ∷ 32 ∷ 48 ∷ 32 ∷ 49 ∷ 32 ∷ 102 ∷ 114 ∷ 101 ∷ 101 ∷ 32 ∷ 52 ∷ 10 ∷ []
+pub blocks : markLine (valuesOf (Blocks 0 1 Free 4)) ≡ 77 ∷ 65 ∷ 82 ∷ 75 ∷ 32 ∷ 56 ∷ 32 ∷ 48 ∷ 32 ∷ 49 ∷ 32 ∷ 102 ∷ 114 ∷ 101 ∷ 101 ∷ 32 ∷ 52 ∷ 10 ∷ []
 unfolding decimal
 blocks = refl
 
 -- `REFUSED 16`
-pub refused : markLine (Refused 16) ≡ 82 ∷ 69 ∷ 70 ∷ 85 ∷ 83 ∷ 69 ∷ 68 ∷ 32 ∷ 49 ∷ 54 ∷ 10 ∷ []
+pub refused : markLine (valuesOf (Refused 16)) ≡ 82 ∷ 69 ∷ 70 ∷ 85 ∷ 83 ∷ 69 ∷ 68 ∷ 32 ∷ 49 ∷ 54 ∷ 10 ∷ []
 unfolding decimal
 refused = refl

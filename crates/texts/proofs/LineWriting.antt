@@ -9,12 +9,12 @@ use borrow.Author.Tests.{lt-ltb}
 use lib.ListN.{length, set, length-append}
 use lib.Seq.{length-sets}
 use Rattle.io.specs.Digits.{glyph, digits, Fewest}
+use Rattle.marker.specs.declared.Values.{Values}
 use Rattle.sheets.specs.Decimal.{digit, decimal}
 use Rattle.sheets.specs.Writing.{Wrote}
 use Rattle.sheets.proofs.Spelling.{units-alone, tens-first, hundreds-first, decimal-is, decimal-short}
 use Rattle.market.specs.declared.Deal.{Deal}
 use Rattle.market.specs.declared.Deal.the-variants.{Tariff, Free}
-use Rattle.texts.specs.declared.verdicts.Values.{Values}
 use Rattle.texts.specs.MarkLine.{field, dealWord, headOf}
 
 pub wrote-length : {l l₁ : List ℕ} {from end : ℕ} {x : List ℕ} → Wrote l l₁ from end x → length l₁ ≡ length l
@@ -62,9 +62,9 @@ pub head-short : (v : Values) → length (headOf v) ≤ 17
 head-short v =
     omega (
       arith,
-      length-append (field (v .number)) (field (v .grower) ++ field (v .pilot)),
+      length-append (field (v .verdict)) (field (v .grower) ++ field (v .pilot)),
       length-append (field (v .grower)) (field (v .pilot)),
-      field-short (v .number),
+      field-short (v .verdict),
       field-short (v .grower),
       field-short (v .pilot),
     )

@@ -15,16 +15,14 @@ use Rattle.reader.specs.Walk.{Numbers}
 use Rattle.reader.specs.Answer.{Tells, kept}
 use Rattle.reader.proofs.Facts.{reply-with-room, reply-without-room, kept-without-room, written-front}
 use Rattle.reader.proofs.Telling.{tells}
-use Rattle.marker.specs.declared.Verdict.{Verdict}
-use Rattle.marker.specs.Marked.{marked}
+use Rattle.marker.specs.declared.Values.{Values}
+use Rattle.marker.specs.Marked.{markedValues}
 use Rattle.sheets.specs.Lines.{line}
 use Rattle.sheets.specs.Sheet.{refusedText}
 use Rattle.sheets.specs.Writing.{Wrote}
 use Rattle.sheets.proofs.LineLaws.{line-short}
-use Rattle.texts.specs.declared.verdicts.Values.{Values}
-use Rattle.texts.specs.MarkLine.{lineBytes, valuesOf, Short, dealWord, headOf, verdictLine, lineOf, markLine}
+use Rattle.texts.specs.MarkLine.{lineBytes, dealWord, headOf, verdictLine, markLine}
 use Rattle.texts.proofs.LineWriting.{head-short, deal-short}
-use Rattle.texts.proofs.VerdictValues.{marked-short}
 
 verdict-fits : (v : Values) → length (verdictLine v) ≤ lineBytes
 verdict-fits v =
@@ -43,44 +41,41 @@ pick-fits true a b p q = p
 pick-fits false a b p q = q
 
 -- every line fits
-line-fits : (v : Values) → length (lineOf v) ≤ lineBytes
+line-fits : (v : Values) → length (markLine v) ≤ lineBytes
 line-fits v =
     pick-fits (eqb (v .refusal) 0) (verdictLine v) (refusedText (v .refusal)) (verdict-fits v) (omega (arith, line-short (v .refusal ∷ [])))
 
-pub values-short : (t s : List ℕ) (verdict : Verdict) (v : Values) → verdict ≡ marked t s → v ≡ valuesOf verdict → Short v
-values-short t s verdict v e f = rw (f, e) (marked-short t s)
-
 -- A line that was written, of the values v.
-module _ (v : Values) {blank page : List ℕ} {end : ℕ} (w : Wrote blank page 0 end (lineOf v)) (long : length blank ≡ lineBytes) where
+module _ (v : Values) {blank page : List ℕ} {end : ℕ} (w : Wrote blank page 0 end (markLine v)) (long : length blank ≡ lineBytes) where
   pub end-fits : end ≤ lineBytes
   end-fits = omega (arith, w .ends, line-fits v)
 
-  front-is : take end page ≡ lineOf v
+  front-is : take end page ≡ markLine v
   front-is =
-      let e : end ≡ length (lineOf v) = omega (arith, w .ends) in
-      rw (w .stored, written-front blank (lineOf v) (omega (arith, long, line-fits v)), e) (take-at (lineOf v) _ (length (lineOf v)) refl)
+      let e : end ≡ length (markLine v) = omega (arith, w .ends) in
+      rw (w .stored, written-front blank (markLine v) (omega (arith, long, line-fits v)), e) (take-at (markLine v) _ (length (markLine v)) refl)
 
   pub front-long : end ≡ length (take end page)
   front-long = omega (arith, w .ends, ap length front-is)
 
-  module _ (t s : List ℕ) (verdict : Verdict) (is : verdict ≡ marked t s) (has : v ≡ valuesOf verdict) (lent : List ℕ) where
-    text-is : lineOf v ≡ markLine (marked t s)
-    text-is = rw (has, is)
+  module _ (t s : List ℕ) (is : v ≡ markedValues t s) (lent : List ℕ) where
+    text-is : markLine v ≡ markLine (markedValues t s)
+    text-is = ap markLine is
 
     pub told-short : length lent < end →
-        Tells (Reply.Refused noRoom) (length lent) (Numbers (markLine (marked t s))) × (lent ≡ kept lent (Numbers (markLine (marked t s))))
+        Tells (Reply.Refused noRoom) (length lent) (Numbers (markLine (markedValues t s))) × (lent ≡ kept lent (Numbers (markLine (markedValues t s))))
     told-short h =
         rw (← text-is) (
-          tells _ (length lent) (Numbers (lineOf v)) (sym (reply-without-room (length lent) (lineOf v) (omega (arith, w .ends)))),
-          sym (kept-without-room lent (lineOf v) (omega (arith, w .ends))),
+          tells _ (length lent) (Numbers (markLine v)) (sym (reply-without-room (length lent) (markLine v) (omega (arith, w .ends)))),
+          sym (kept-without-room lent (markLine v) (omega (arith, w .ends))),
         )
 
     pub told-copied : (after : List ℕ) (place : ℕ) → end ≤ length lent → Wrote lent after 0 place (take end page) →
-        Tells (Reply.Done end) (length lent) (Numbers (markLine (marked t s))) × (after ≡ kept lent (Numbers (markLine (marked t s))))
+        Tells (Reply.Done end) (length lent) (Numbers (markLine (markedValues t s))) × (after ≡ kept lent (Numbers (markLine (markedValues t s))))
     told-copied after place h c =
-        let fits : length (lineOf v) ≤ length lent = omega (arith, w .ends) in
-        let e : end ≡ length (lineOf v) = omega (arith, w .ends) in
+        let fits : length (markLine v) ≤ length lent = omega (arith, w .ends) in
+        let e : end ≡ length (markLine v) = omega (arith, w .ends) in
         rw (← text-is) (
-          tells _ (length lent) (Numbers (lineOf v)) (ap Reply.Done e ∙ sym (reply-with-room (length lent) (lineOf v) fits)),
-          rw (le-leb (length (lineOf v)) (length lent) fits) (c .stored ∙ ap (sets lent 0) front-is),
+          tells _ (length lent) (Numbers (markLine v)) (ap Reply.Done e ∙ sym (reply-with-room (length lent) (markLine v) fits)),
+          rw (le-leb (length (markLine v)) (length lent) fits) (c .stored ∙ ap (sets lent 0) front-is),
         )

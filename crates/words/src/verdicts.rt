@@ -188,27 +188,25 @@ fn deal_fault(ticket: &[u8], settlement: &[u8], i: usize, j: usize, deal: Deal, 
     gains_of_files(ticket, settlement, i, j, deal);
 }
 
-// The verdict on a settlement of a ticket, both as the bytes of files.
+// The verdict on a settlement of a ticket, both as the bytes of files, by its number on paper.
 pub fn explain(ticket: &[u8], settlement: &[u8], verdict: Verdict) {
-    match verdict {
-        Verdict::Refused { why } => refusal(STDOUT_FILENO, why),
-        Verdict::Sound { count: _ } => end(b"sound: no deal is idle or blocks"),
-        Verdict::TariffOverCap { grower, pilot } => pair_fault(grower, pilot, Deal::Tariff, false),
-        Verdict::FreeOverCap { grower, pilot } => pair_fault(grower, pilot, Deal::Free, false),
-        Verdict::WrongPay { grower, pilot } => pair_fault(grower, pilot, Deal::Free, true),
-        Verdict::GrowerOverHours { grower } => grower_over(grower),
-        Verdict::PilotOverHours { pilot } => pilot_over(pilot),
-        Verdict::Idle {
-            grower,
-            pilot,
+    let values = marker::values_of(verdict);
+    let deal = values.deal;
+    let number = values.verdict;
+    match number {
+        0 => refusal(STDOUT_FILENO, values.refusal),
+        1 => end(b"sound: no deal is idle or blocks"),
+        2 | 3 => pair_fault(values.grower, values.pilot, deal, false),
+        4 => pair_fault(values.grower, values.pilot, deal, true),
+        5 => grower_over(values.grower),
+        6 => pilot_over(values.pilot),
+        _ => deal_fault(
+            ticket,
+            settlement,
+            values.grower,
+            values.pilot,
             deal,
-            count: _,
-        } => deal_fault(ticket, settlement, grower, pilot, deal, true),
-        Verdict::Blocks {
-            grower,
-            pilot,
-            deal,
-            count: _,
-        } => deal_fault(ticket, settlement, grower, pilot, deal, false),
+            number == 7,
+        ),
     }
 }

@@ -1,15 +1,17 @@
--- `exchange_c::exchange_mark` meets its contract: the marker's verdict as a number.
+-- `exchange_c::exchange_mark` meets its contract: the values of the marker's verdict as a number.
 -- Assumes nothing.
-use Rattle.exchange_c.proofs.MarkLaws.{mark-fits}
+use mathlib.Core.Path.{ap, _∙_}
+use Rattle.marker.proofs.ValueBounds.{marked-bounded}
+use Rattle.exchange_c.specs.Marks.{markNumber}
 use borrow.Author.Needs.{needs}
 use Rattle.exchange_c.proofs.exchange_mark.Statement.{statement}
 use Rattle.exchange_c.proofs.exchange_mark.Tie as tie
 
 mark-number-requires : tie.Need-mark-number-requires
-mark-number-requires c κs = rw (c .mark .ensures) (mark-fits _ _)
+mark-number-requires c κs = rw (c .values-of .ensures ∙ c .before .mark .ensures .1) (marked-bounded _ _)
 
 returns : tie.Need-returns
-returns c = rw (c .before .mark .ensures) at (c .mark-number .ensures)
+returns c = c .mark-number .ensures ∙ ap markNumber (c .before .values-of .ensures ∙ c .before .before .mark .ensures .1)
 
 pub exchange-mark-spec : {M : Type 1} → statement M
-exchange-mark-spec = tie.close (tie.spec (λ c κs. search needs) mark-number-requires returns)
+exchange-mark-spec = tie.close (tie.spec (λ c κs. search needs) (λ c κs. search needs) mark-number-requires returns)

@@ -15,7 +15,7 @@ use Rattle.marker.proofs.deal_faults.judge_deals.Statement.{statement}
 use Rattle.marker.proofs.deal_faults.judge_deals.Tie as tie
 
 abbrev Inv-loop2 : tie.InvT-loop2
-Inv-loop2 n m growers pilots tariff-cap free-cap joint-gain verdict₀ i grower j pilot deal₀ verdict deal =     ((o : Origin n m growers pilots tariff-cap free-cap joint-gain) →
+Inv-loop2 n m growers pilots tariff-cap free-cap joint-gain verdict₀ i grower j pilot deal₀ verdict deal = ((o : Origin n m growers pilots tariff-cap free-cap joint-gain) →
     none (dealFaultAt (ticketFrom o) (settlementFrom o)) (2 * (i * m + j) + dealNumber deal)) × (verdict ≡ Sound (2 * (n * m)))
 
 abbrev μ-loop2 : tie.MeasureT-loop2

@@ -1,5 +1,4 @@
 -- `marker::judge` meets its contract: the squares hold what the lists say.
-use Prim.Native.Nat.{_≤_}
 use mathlib.Core.Path.{_∙_}
 use native.Mathlib.Omega.{arith}
 use Rattle.marker.proofs.SameVerdicts.{judged-lists}

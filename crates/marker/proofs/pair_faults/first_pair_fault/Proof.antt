@@ -1,6 +1,6 @@
 -- `marker::first_pair_fault` meets its contract: no pair before this place is at fault; what is found is the first.
 use Prim.Native.Nat.{ℕ, _+_, _*_, _-_, _≤_}
-use mathlib.Core.Path.{_≡_, sym, ap, _∙_}
+use mathlib.Core.Path.{_≡_, ap}
 use mathlib.Core.List.{[]}
 use native.Mathlib.Omega.{arith}
 use Rattle.grid.specs.First.{none}

@@ -1,5 +1,4 @@
 -- `marker::all_pilots` meets its contract: a pilot's rows are those of the squares on their side.
-use native.Mathlib.Omega.{arith}
 use Rattle.marker.proofs.PartyRows.{pilot-is}
 use borrow.Author.Needs.{needs}
 use Rattle.marker.proofs.parties.all_pilots.Statement.{statement}

@@ -9,21 +9,21 @@ use Rattle.texts.proofs.verdicts.head.Tie as tie
 
 spaced-requires-2 : tie.Need-spaced-requires-2
 spaced-requires-2 c κs =
-    let s = c .before .before .before .before .before .before .before .before .before .before .before in
-    let first = room-after 5 8 (c .before .before .before .before .before .before .before .word .ensures) (omega arith) (omega (arith, s .pre .1)) in
-    (s .pre .0 .grower, room-after 4 4 (c .before .before .before .spaced .ensures) (field-short _) first)
+    let s = c .before .before .before .before .before .before .before .before .before .before .before .before in
+    let first = room-after 5 8 (c .before .before .before .before .before .before .before .before .word .ensures) (omega arith) (omega (arith, s .pre .1)) in
+    (omega (arith, s .pre .0 .grower), room-after 4 4 (c .before .before .before .spaced .ensures) (field-short _) first)
 
 spaced-requires-3 : tie.Need-spaced-requires-3
 spaced-requires-3 c κs =
-    let s = c .before .before .before .before .before .before .before .before .before .before .before .before .before .before .before in
-    let first = room-after 5 12 (c .before .before .before .before .before .before .before .before .before .before .before .word .ensures) (omega arith) (omega (arith, s .pre .1)) in
+    let s = c .before .before .before .before .before .before .before .before .before .before .before .before .before .before .before .before in
+    let first = room-after 5 12 (c .before .before .before .before .before .before .before .before .before .before .before .before .word .ensures) (omega arith) (omega (arith, s .pre .1)) in
     let second = room-after 4 8 (c .before .before .before .before .before .before .before .spaced .ensures) (field-short _) first in
-    (s .pre .0 .pilot, room-after 4 4 (c .before .before .before .spaced2 .ensures) (field-short _) second)
+    (omega (arith, s .pre .0 .pilot), room-after 4 4 (c .before .before .before .spaced2 .ensures) (field-short _) second)
 
 returns : tie.Need-returns
 returns c =
     wrote-then
-    (c .before .before .before .before .before .before .before .before .before .before .before .before .before .before .word .ensures)
+    (c .before .before .before .before .before .before .before .before .before .before .before .before .before .before .before .word .ensures)
     (wrote-then
     (c .before .before .before .before .before .before .before .before .before .before .spaced .ensures)
     (wrote-then (c .before .before .before .before .before .before .spaced2 .ensures) (c .before .before .spaced3 .ensures)))
@@ -34,6 +34,7 @@ head-spec =
     (tie.spec
     (λ c. search needs)
     (λ c κs. search needs)
+    (λ c. search needs)
     (λ c κs. search needs)
     spaced-requires-2
     spaced-requires-3

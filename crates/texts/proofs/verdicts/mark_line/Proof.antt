@@ -1,23 +1,23 @@
 -- `texts::verdicts::mark_line` meets its contract: the line is written and then copied if the buffer has room for it.
 -- Assumes nothing.
+use mathlib.Core.Path.{_∙_}
 use native.Mathlib.Omega.{arith}
 use borrow.Author.Needs.{needs}
-use Rattle.texts.proofs.MarkLineLaws.{values-short, end-fits, front-long, told-short, told-copied}
+use Rattle.marker.proofs.ValueBounds.{marked-bounded}
+use Rattle.texts.proofs.MarkLineLaws.{end-fits, front-long, told-short, told-copied}
 use Rattle.texts.proofs.verdicts.mark_line.Statement.{statement}
 use Rattle.texts.proofs.verdicts.mark_line.Tie as tie
 
 tell-requires : tie.Need-tell-requires
 tell-requires c κs =
-    let s = c .before .before .before .before .before .before .before .args in
-    let short = values-short (s .ticket .now) (s .settlement .now) _ _ (c .before .mark .ensures) (c .values-of .ensures) in
-    (short, omega (arith, c .before .before .before .blank .ensures))
+    (rw (c .values-of .ensures ∙ c .before .mark .ensures .1) (marked-bounded _ _), omega (arith, c .before .before .before .blank .ensures))
 
 returns : tie.Need-returns
 returns c =
     let s = c .before .before .before .before .before .before .before .before .before .before .args in
     let v = c .before .before .before .values-of in
-    told-short (v .result) (c .before .before .tell .ensures) (c .before .before .before .before .before .before .blank .ensures) (s .ticket .now) (s .settlement .now) _ (c .before .before .before .before .mark .ensures)
-    (v .ensures) (s .text .now) (c .if1 .taken)
+    told-short (v .result) (c .before .before .tell .ensures) (c .before .before .before .before .before .before .blank .ensures) (s .ticket .now) (s .settlement .now)
+    (v .ensures ∙ c .before .before .before .before .mark .ensures .1) (s .text .now) (c .if1 .taken)
 
 array-share-prefix-line : tie.Need-array-share-prefix-line
 array-share-prefix-line c =
@@ -38,8 +38,8 @@ returns-2 : tie.Need-returns-2
 returns-2 c =
     let s = c .before .before .before .before .before .before .before .before .before .before .before .before .before .before .before .args in
     let v = c .before .before .before .before .before .before .before .before .values-of in
-    told-copied (v .result) (c .before .before .before .before .before .before .before .tell .ensures) (c .before .before .before .before .before .before .before .before .before .before .before .blank .ensures) (s .ticket .now) (s .settlement .now) _ (c .before .before .before .before .before .before .before .before .before .mark .ensures)
-    (v .ensures) (s .text .now) _ _ (c .before .before .before .before .before .if1 .left) (c .before .before .word .ensures)
+    told-copied (v .result) (c .before .before .before .before .before .before .before .tell .ensures) (c .before .before .before .before .before .before .before .before .before .before .before .blank .ensures) (s .ticket .now) (s .settlement .now)
+    (v .ensures ∙ c .before .before .before .before .before .before .before .before .before .mark .ensures .1) (s .text .now) _ _ (c .before .before .before .before .before .if1 .left) (c .before .before .word .ensures)
 
 pub mark-line-spec : {M : Type 1} → statement M
 mark-line-spec =

@@ -17,7 +17,7 @@ number-requires c κs =
     let s = c .before .before .before .before .before .before .before .before .before .before in
     let v = s .args .values in
     let next = room-after 17 10 (c .before .before .before .before .before .before .before .head .ensures) (head-short v) (omega (arith, s .pre .1)) in
-    (s .pre .0 .count, room-after 7 3 (c .before .before .before .deal-word .ensures) (deal-short (v .deal)) next)
+    (omega (arith, s .pre .0 .count), room-after 7 3 (c .before .before .before .deal-word .ensures) (deal-short (v .deal)) next)
 
 word-requires : tie.Need-word-requires
 word-requires c κs =
