@@ -42,13 +42,10 @@ pub(crate) fn listed(
     for k in 0..pairs {
         let i = k / pilots;
         let j = k % pilots;
-        write_three(
-            &mut list,
-            3 + 3 * k,
-            tariff_hours[i][j],
-            free_hours[i][j],
-            pay[i][j],
-        );
+        let by_tariff = tariff_hours[i][j];
+        let in_free_deal = free_hours[i][j];
+        let paid = pay[i][j];
+        write_three(&mut list, 3 + 3 * k, by_tariff, in_free_deal, paid);
     }
     list
 }
