@@ -1,17 +1,20 @@
 // The settling of a ticket's file: its numbers are read, the method settles the market that they mean, and the settlement is written.
 mod listing;
 
+ghost use mathlib.Core.Path.{_≡_};
+ghost use lib.ListN.{length};
 ghost use Rattle.settler.specs.Settled.{Settled};
 ghost use Rattle.settler.specs.Numbers.{IsTicket, AnswersNumbers, SoundFront};
+use listing::list_settlement;
 use reader::NO_ROOM;
 use reader::Reply;
 use tables::Quantity;
 use tables::square;
 
-// The numbers of a sound settlement of a ticket.
-fn sound_list(ticket: &[u16]) -> [u16; 771]
-    requires { ⌜ IsTicket (now ticket) ⌝ }
-    ensures { λ r. ⌜ SoundFront (now (ticket .entry)) r ⌝ }
+// Lists the numbers of a sound settlement of a ticket.
+fn list_sound(ticket: &[u16], list: &mut [u16; 771])
+    requires { ⌜ IsTicket (now ticket) × (length (now list) ≡ 771) ⌝ }
+    ensures { λ _. ⌜ (length (now (list .exit)) ≡ 771) × SoundFront (now (ticket .entry)) (now (list .exit)) ⌝ }
 {
     let growers = tables::growers(ticket);
     let pilots = tables::pilots(ticket);
@@ -30,7 +33,7 @@ fn sound_list(ticket: &[u16]) -> [u16; 771]
         &mut tariff_hours,
         &mut free_hours,
     );
-    listing::listed(growers, pilots, tariff_hours, free_hours, pay)
+    list_settlement(list, growers, pilots, tariff_hours, free_hours, pay);
 }
 
 // Settles a ticket's numbers into a lent buffer, which must have room for the longest settlement that the ticket could have.
@@ -44,7 +47,8 @@ fn settle_numbers(ticket: &[u16], settlement: &mut [u8]) -> Reply
     if settlement.len() < 3 + 4 * pairs {
         return Reply::Refused { why: NO_ROOM };
     }
-    let list = sound_list(ticket);
+    let mut list = tables::settlement_list();
+    list_sound(ticket, &mut list);
     reader::write_settlement(
         grid::front(&list, 3 + 3 * pairs),
         growers,

@@ -25,19 +25,19 @@ fn write_three(list: &mut [u16; 771], place: usize, x: u16, y: u16, z: u16)
     list[place + 2] = z;
 }
 
-// The list of kind, growers and pilots, then for every pair its tariff hours, its free hours and the pay per free hour.
-pub(crate) fn listed(
+// Lists kind, growers and pilots, then for every pair its tariff hours, its free hours and the pay per free hour.
+pub(crate) fn list_settlement(
+    list: &mut [u16; 771],
     growers: usize,
     pilots: usize,
     tariff_hours: [[u16; 16]; 16],
     free_hours: [[u16; 16]; 16],
     pay: [[u16; 16]; 16],
-) -> [u16; 771]
-    requires { ⌜ (growers ≤ 16) × (pilots ≤ 16) ⌝ }
-    ensures { λ r. ⌜ (length r ≡ 771) × Listed growers pilots «tariff_hours» «free_hours» pay r ⌝ }
+)
+    requires { ⌜ (length (now list) ≡ 771) × (growers ≤ 16) × (pilots ≤ 16) ⌝ }
+    ensures { λ _. ⌜ (length (now (list .exit)) ≡ 771) × Listed growers pilots «tariff_hours» «free_hours» pay (now (list .exit)) ⌝ }
 {
-    let mut list = tables::settlement_list();
-    write_three(&mut list, 0, SETTLEMENT, count(growers), count(pilots));
+    write_three(&mut *list, 0, SETTLEMENT, count(growers), count(pilots));
     let pairs = growers * pilots;
     for k in 0..pairs {
         let i = k / pilots;
@@ -45,7 +45,6 @@ pub(crate) fn listed(
         let by_tariff = tariff_hours[i][j];
         let in_free_deal = free_hours[i][j];
         let paid = pay[i][j];
-        write_three(&mut list, 3 + 3 * k, by_tariff, in_free_deal, paid);
+        write_three(&mut *list, 3 + 3 * k, by_tariff, in_free_deal, paid);
     }
-    list
 }

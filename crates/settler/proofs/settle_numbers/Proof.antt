@@ -21,13 +21,19 @@ returns c =
     let q = c .before in
     room-answers _ _ _ _ _ (q .before .before .growers .ensures .0) (q .before .pilots .ensures .0) (all q) (c .if1 .taken)
 
+list-sound-requires : tie.Need-list-sound-requires
+list-sound-requires c κs = (c .before .before .before .before .before .before .before .before .pre, c .before .settlement-list .ensures .1)
+
+slice-aggregate-front : tie.Need-slice-aggregate-front
+slice-aggregate-front c = c .before .list-sound .ensures .0
+
 returns-2 : tie.Need-returns-2
 returns-2 c =
-    let q = c .before .before .before .before .before .before .before .before in
-    let l = c .before .before .before .before .before .before .sound-list in
+    let q = c .before .before .before .before .before .before .before .before .before .before in
+    let l = c .before .before .before .before .before .before .list-sound in
     let w = c .before .before .write-settlement in
-    written-answers _ (l .result) _ _ _ _ _ _ _ (l .ensures) (q .before .before .growers .ensures .0) (q .before .pilots .ensures .0) (all q)
-    (c .before .before .before .before .front .ensures) (c .before .before .before .before .before .before .before .if1 .left) (w .ensures .0 .reply) (w .ensures .1)
+    written-answers _ _ _ _ _ _ _ _ _ (l .ensures .1) (q .before .before .growers .ensures .0) (q .before .pilots .ensures .0) (all q)
+    (c .before .before .before .before .front .ensures) (c .before .before .before .before .before .before .before .before .before .if1 .left) (w .ensures .0 .reply) (w .ensures .1)
 
 pub settle-numbers-spec : {M : Type 1} → statement M
 settle-numbers-spec =
@@ -40,7 +46,8 @@ settle-numbers-spec =
     (λ c. search needs)
     returns
     (λ c κs. search needs)
-    (λ c. search needs)
+    list-sound-requires
+    slice-aggregate-front
     (λ c. search needs)
     (λ c. search needs)
     (λ c κs. search needs)
