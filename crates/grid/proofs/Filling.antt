@@ -1,12 +1,15 @@
 -- Filling a square row by row in two loops, for any values: the invariant `Part` of both, and its steps.
-use mathlib.Core.Path.{_≡_, _∙_}
-use mathlib.Core.Logic.{⊎-elim}
+use mathlib.Core.Path.{_≡_, sym, _∙_}
+use mathlib.Core.Logic.{inl, inr, ⊎-elim}
+use mathlib.Core.List.{List, []}
 use Prim.Native.Nat.{ℕ, _+_, _<_, _≤_}
 use native.Mathlib.Omega.{arith}
+use lib.ListN.{length, getD, set, length-set}
+use lib.Seq.{getD-set-same, getD-set-other}
 use Rattle.grid.specs.Grid.{Grid, at, put, Square}
-use Rattle.grid.specs.Fill.{Filled}
-use Rattle.grid.proofs.Cases.{by-cell, lt-or-le, eq-or-ne}
-use Rattle.grid.proofs.Squares.{put-square, at-put-same, at-put-other}
+use Rattle.grid.specs.Fill.{Filled, FilledRow}
+use Rattle.grid.proofs.Cases.{by-index, by-cell, lt-or-le, eq-or-ne}
+use Rattle.grid.proofs.Squares.{put-square, at-put-same, at-put-other, square-ext}
 
 -- the rows before i, and j cells of row i
 pub record Part (val : ℕ → ℕ → ℕ) (m i j : ℕ) (q : Grid) : Type 0 where
@@ -44,6 +47,27 @@ module _ (val : ℕ → ℕ → ℕ) (m : ℕ) where
     rest = λ a b f g. p .rest a b (λ x. f (omega arith)) (λ x. omega (arith, f (omega arith)));
   }
 
+  -- a whole row at once
+  pub part-line : (q : Grid) (i : ℕ) (r : List ℕ) → i < 16 → FilledRow (val i) m r → Part val m i 0 q → Part val m (i + 1) 0 (set q i r)
+  part-line q i r hi f p = record {
+    square = record {
+      high = length-set q i r ∙ p .square .high;
+      wide = by-index (λ a. a < 16 → length (getD (set q i r) a []) ≡ 16) i (λ _. rw same (f .row .long)) (λ a n ha. rw (other a n) (p .square .wide a ha));
+      small = λ a b. by-index (λ k. at (set q i r) k b < 65536) i (rw same (f .row .small b)) (λ k n. rw (other k n) (p .square .small k b)) a;
+    };
+    past = λ a b ha hb. by-index (λ k. k < i + 1 → at (set q i r) k b ≡ val k b) i (λ _. rw same (f .inner b hb))
+        (λ k n hk. rw (other k n) (p .past k b (omega arith) hb)) a ha;
+    here = λ a b e h. absurd (omega arith);
+    rest = λ a b before now. by-index (λ k. (k < i + 1 → m ≤ b) → at (set q i r) k b ≡ 0) i (λ l. rw same (f .outer b (l (omega arith))))
+        (λ k n l. rw (other k n) (p .rest k b (λ h. l (omega arith)) (λ h. absurd (n h)))) a before;
+  }
+    where
+      same : getD (set q i r) i [] ≡ r
+      same = getD-set-same q i r [] (omega (arith, p .square .high))
+
+      other : (a : ℕ) → (a ≡ i → ⊥) → getD (set q i r) a [] ≡ getD q a []
+      other a n = getD-set-other q i a r [] n
+
   pub part-end : (q : Grid) (i n : ℕ) → n ≤ i → i ≤ n → Part val m i 0 q → Filled val n m q
   part-end q i n l h p = record {
     square = p .square;
@@ -55,3 +79,11 @@ module _ (val : ℕ → ℕ → ℕ) (m : ℕ) where
 -- a square whose extent is given by an equation
 pub filled-as : (val : ℕ → ℕ → ℕ) (n m n′ m′ : ℕ) (q : Grid) → n ≡ n′ → m ≡ m′ → Filled val n m q → Filled val n′ m′ q
 filled-as val n m n′ m′ q e f p = rw (e, f) at p
+
+-- there is one such square
+pub filled-one : (val : ℕ → ℕ → ℕ) (n m : ℕ) (p q : Grid) → Filled val n m p → Filled val n m q → p ≡ q
+filled-one val n m p q f g = square-ext p q (f .square) (g .square) (λ i j _ _.
+    ⊎-elim
+    (λ hi. ⊎-elim (λ hj. f .inner i j hi hj ∙ sym (g .inner i j hi hj)) (λ hj. f .outer i j (inr hj) ∙ sym (g .outer i j (inr hj))) (lt-or-le j m))
+    (λ hi. f .outer i j (inl hi) ∙ sym (g .outer i j (inl hi)))
+    (lt-or-le i n))

@@ -6,7 +6,7 @@ use mathlib.Core.Logic.{⊎-elim}
 use mathlib.Core.Bool.{cond}
 use mathlib.Core.List.{List, []}
 use native.Mathlib.Omega.{arith}
-use lib.Dec.{eqb, ltb}
+use lib.Dec.{eqb}
 use lib.ListN.{getD, set, length, List·getD-eq-default}
 use lib.Seq.{getD-set-same, getD-set-other, set-out}
 use borrow.Author.Tests.{eq-eqb, ne-eqb}
@@ -55,7 +55,8 @@ party-is : (p : Party) (k own : ℕ) (had worth : Deal → ℕ → ℕ) (tariff 
     p ≡ partyOf own tariff free earned share k → ((e : Deal) (l : ℕ) → l < k → lines tariff free e l ≡ had e l) →
     ((e : Deal) (l : ℕ) → l < k → lines earned share e l ≡ worth e l) → IsParty p k own had worth
 party-is p k own had worth tariff free earned share e h w = rw e (record {
-  over = ap (ltb own) used;
+  owns = refl;
+  used = used;
   unused = ap (λ (u : ℕ). own - u) used;
   hours = h;
   earned = w;

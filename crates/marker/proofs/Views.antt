@@ -1,8 +1,9 @@
 -- Parties in market's terms: what the tests on them say of the ticket and the settlement that they come from.
 -- Assumes nothing.
 use Prim.Native.Nat.{ℕ, _+_, _*_, _<_}
-use mathlib.Core.Path.{_≡_, refl}
+use mathlib.Core.Path.{_≡_, refl, ap₂}
 use mathlib.Core.List.{List}
+use lib.Dec.{ltb}
 use lib.ListN.{getD}
 use Rattle.grid.specs.Grid.{Grid, at}
 use Rattle.grid.specs.First.{first}
@@ -12,17 +13,17 @@ use Rattle.market.specs.Market.{cap}
 use Rattle.market.specs.Tables.{byDeal}
 use Rattle.marker.specs.declared.Party.{Party}
 use Rattle.marker.specs.Verdict.{growerOver, pilotOver, growerSpare, pilotSpare, idle, blocks, wrongDeal, dealNumber, dealVerdict}
-use Rattle.marker.specs.Tables.{foundIf, nobody, spareIn, idleIn, blocksIn, dealFound, Origin, ticketFrom, settlementFrom}
+use Rattle.marker.specs.Tables.{foundIf, nobody, isOver, spareIn, idleIn, blocksIn, dealFound, Origin, ticketFrom, settlementFrom}
 use Rattle.marker.proofs.Spares.{spare-same}
 use Rattle.marker.proofs.Walks.{first-same}
 
 module _ {n m : ℕ} {growers pilots : List Party} {tariffCap freeCap jointGain : Grid} (o : Origin n m growers pilots tariffCap freeCap jointGain) where
   -- the walks over parties who may be over their hours
-  pub first-grower : first (λ p. getD growers p nobody .over) n ≡ first (growerOver (ticketFrom o) (settlementFrom o)) n
-  first-grower = first-same _ _ n (λ i hi. o .grower i hi .over)
+  pub first-grower : first (λ p. isOver (getD growers p nobody)) n ≡ first (growerOver (ticketFrom o) (settlementFrom o)) n
+  first-grower = first-same _ _ n (λ i hi. ap₂ ltb (o .grower i hi .owns) (o .grower i hi .used))
 
-  pub first-pilot : first (λ p. getD pilots p nobody .over) m ≡ first (pilotOver (ticketFrom o) (settlementFrom o)) m
-  first-pilot = first-same _ _ m (λ j hj. o .pilot j hj .over)
+  pub first-pilot : first (λ p. isOver (getD pilots p nobody)) m ≡ first (pilotOver (ticketFrom o) (settlementFrom o)) m
+  first-pilot = first-same _ _ m (λ j hj. ap₂ ltb (o .pilot j hj .owns) (o .pilot j hj .used))
 
   module _ (i j : ℕ) (hi : i < n) (hj : j < m) where
     cap-is : (d : Deal) → byDeal (at tariffCap i j) (at freeCap i j) d ≡ cap (ticketFrom o) d i j

@@ -43,7 +43,8 @@ usedIn tariff free k = sumDeals (lines tariff free) k
 -- the party with so many own hours and four rows, of k partners
 abbrev pub partyOf : ℕ → List ℕ → List ℕ → List ℕ → List ℕ → ℕ → Party
 partyOf own tariff free earned share k = record {
-  over = ltb own (usedIn tariff free k);
+  used = usedIn tariff free k;
+  own = own;
   unused = own - usedIn tariff free k;
   tariff = tariff;
   free = free;
@@ -58,11 +59,16 @@ partyAt own tariff free earned share k p =
 
 -- nobody, where a list of parties has ended
 abbrev pub nobody : Party
-nobody = record { over = false; unused = 0; tariff = []; free = []; earned = []; share = [] }
+nobody = record { used = 0; own = 0; unused = 0; tariff = []; free = []; earned = []; share = [] }
+
+-- a party is over his hours
+abbrev pub isOver : Party → Bool
+isOver p = ltb (p .own) (p .used)
 
 -- a party with so many own hours, and with such hours and earnings by deal and partner, one of k
 pub record IsParty (p : Party) (k own : ℕ) (had worth : Deal → ℕ → ℕ) : Type 0 where
-  pub over : p .over ≡ ltb own (sumDeals had k)
+  pub owns : p .own ≡ own
+  pub used : p .used ≡ sumDeals had k
   pub unused : p .unused ≡ own - sumDeals had k
   pub hours : (e : Deal) (l : ℕ) → l < k → lines (p .tariff) (p .free) e l ≡ had e l
   pub earned : (e : Deal) (l : ℕ) → l < k → lines (p .earned) (p .share) e l ≡ worth e l

@@ -80,10 +80,11 @@ pub(crate) enum Spare {
     Worth { worth: u16 },
 }
 
-// A party: whether he is over his hours, and his free hours; with each partner his hours by the tariff and in the free deal, and what
-// an hour of each earns him.
+// A party: his hours over all deals, his own hours, and those of his own in no deal; with each partner his hours by the tariff and in the
+// free deal, and what an hour of each earns him.
 pub(crate) struct Party {
-    pub(crate) over: bool,
+    pub(crate) used: u32,
+    pub(crate) own: u16,
     pub(crate) unused: u16,
     pub(crate) tariff: [u16; 16],
     pub(crate) free: [u16; 16],

@@ -1,5 +1,5 @@
-// Growers and pilots: whether they are over their hours, their free hours, and their hours and earnings with each partner. What is said
-// of a grower is said of a pilot too, whose rows are those of the squares on their side.
+// Growers and pilots: their own hours, used and free, and their hours and earnings with each partner. What is said of a grower is said of
+// a pilot too, whose rows are those of the squares on their side.
 ghost use mathlib.Core.Path.{_≡_};
 ghost use Prim.Native.Nat.{ℕ, _-_, _<_, _≤_};
 ghost use mathlib.Core.List.{[]};
@@ -8,28 +8,34 @@ ghost use Rattle.grid.specs.Grid.{at};
 ghost use Rattle.grid.specs.Fill.{Filled};
 ghost use Rattle.grid.specs.First.{first};
 ghost use Rattle.market.specs.Tables.{ticketIn, settlementIn};
-ghost use Rattle.marker.specs.Tables.{usedIn, partyOf, partyAt, nobody, IsGrower, IsPilot};
+ghost use Rattle.marker.specs.Tables.{usedIn, partyOf, partyAt, nobody, isOver, IsGrower, IsPilot};
 use crate::Party;
 use grid::turned;
 
+fn wide(x: u16) -> u32
+    ensures { λ r. ⌜ (r ≡ x) × (r < 65536) ⌝ }
+{
+    x as u32
+}
+
 // A party's hours over all deals.
-fn used(tariff: [u16; 16], free: [u16; 16], partners: usize) -> u64
+fn used(tariff: [u16; 16], free: [u16; 16], partners: usize) -> u32
     requires { ⌜ partners ≤ 16 ⌝ }
     ensures { λ r. ⌜ r ≡ usedIn tariff free partners ⌝ }
 {
-    let mut total: u64 = 0;
+    let mut total: u32 = 0;
     for l in 0..partners {
-        total += grid::wide(tariff[l]) + grid::wide(free[l]);
+        total += wide(tariff[l]) + wide(free[l]);
     }
     total
 }
 
 // What is left of a party's own hours.
-fn left(hours: u16, used: u64) -> u16
+fn left(hours: u16, used: u32) -> u16
     ensures { λ r. ⌜ r ≡ hours - used ⌝ }
 {
-    if used < grid::wide(hours) {
-        (grid::wide(hours) - used) as u16
+    if used < wide(hours) {
+        (wide(hours) - used) as u16
     } else {
         0
     }
@@ -49,7 +55,8 @@ fn party(
 {
     let total = used(tariff, free, partners);
     Party {
-        over: grid::wide(hours) < total,
+        used: total,
+        own: hours,
         unused: left(hours, total),
         tariff,
         free,
@@ -63,7 +70,8 @@ fn no_parties() -> [Party; 16]
 {
     let row = grid::zero_row();
     let party = Party {
-        over: false,
+        used: 0,
+        own: 0,
         unused: 0,
         tariff: row,
         free: row,
@@ -166,11 +174,11 @@ pub(crate) fn all_pilots(
 // The first of so many parties who is over his hours.
 pub(crate) fn first_over(parties: [Party; 16], count: usize) -> usize
     requires { ⌜ count ≤ 16 ⌝ }
-    ensures { λ r. ⌜ r ≡ first (λ p. getD parties p nobody .over) count ⌝ }
+    ensures { λ r. ⌜ r ≡ first (λ p. isOver (getD parties p nobody)) count ⌝ }
 {
     for p in 0..count {
         let party = parties[p];
-        if party.over {
+        if wide(party.own) < party.used {
             return p;
         }
     }

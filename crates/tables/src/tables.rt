@@ -1,6 +1,6 @@
 // Lists of numbers as squares and rows.
 ghost use mathlib.Core.Path.{_≡_};
-ghost use Prim.Native.Nat.{_+_, _*_, _<_, min};
+ghost use Prim.Native.Nat.{_+_, _*_, _<_, _≤_, min};
 ghost use lib.ListN.{getD};
 ghost use Rattle.grid.specs.Fill.{FilledRow};
 ghost use Rattle.tables.specs.View.{growersOf, pilotsOf, pairPlace, placeOf, quantityOf, growerHoursOf, pilotHoursOf, Holds};
@@ -54,6 +54,18 @@ fn quantity_at(list: &[u16], quantity: Quantity, i: usize, j: usize) -> u16
     grid::entry(list, place(quantity, n, m, i, j))
 }
 
+// A quantity of grower i with each of m pilots.
+fn row_of(list: &[u16], quantity: Quantity, i: usize, m: usize) -> [u16; 16]
+    requires { ⌜ (i < 16) × (m ≤ 16) ⌝ }
+    ensures { λ r. ⌜ FilledRow (quantityOf quantity (now (list .entry)) i) m r ⌝ }
+{
+    let mut r = grid::zero_row();
+    for j in 0..m {
+        r[j] = quantity_at(list, quantity, i, j);
+    }
+    r
+}
+
 // A quantity of every pair, growers by pilots, as far as the square reaches; 0 in all other cells.
 pub fn square(list: &[u16], quantity: Quantity) -> [[u16; 16]; 16]
     ensures { λ r. ⌜ Holds quantity (now (list .entry)) r ⌝ }
@@ -62,9 +74,7 @@ pub fn square(list: &[u16], quantity: Quantity) -> [[u16; 16]; 16]
     let columns = grid::within(pilots(list));
     let mut q = grid::zeros();
     for i in 0..rows {
-        for j in 0..columns {
-            q[i][j] = quantity_at(list, quantity, i, j);
-        }
+        q[i] = row_of(list, quantity, i, columns);
     }
     q
 }

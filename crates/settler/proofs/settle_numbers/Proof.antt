@@ -1,6 +1,6 @@
 -- `settler::settle_numbers` meets its contract: too little room is refused, else the sound list is packed into the buffer.
 -- Assumes nothing.
-use mathlib.Core.Path.{_≡_}
+use mathlib.Core.Path.{_≡_, sym}
 use Prim.Native.Nat.{_*_}
 use native.Mathlib.Omega.{arith}
 use Rattle.settler.proofs.TicketLimits.{limits}
@@ -25,7 +25,7 @@ list-sound-requires : tie.Need-list-sound-requires
 list-sound-requires c κs = (c .before .before .before .before .before .before .before .before .pre, c .before .settlement-list .ensures .1)
 
 slice-aggregate-front : tie.Need-slice-aggregate-front
-slice-aggregate-front c = c .before .list-sound .ensures .0
+slice-aggregate-front c = sym (c .before .list-sound .ensures .0)
 
 returns-2 : tie.Need-returns-2
 returns-2 c =

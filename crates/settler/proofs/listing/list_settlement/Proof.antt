@@ -10,7 +10,7 @@ use Rattle.settler.proofs.listing.list_settlement.Statement.{statement}
 use Rattle.settler.proofs.listing.list_settlement.Tie as tie
 
 abbrev Inv-loop : tie.InvT-loop
-Inv-loop list₀ growers pilots tariff-hours free-hours pay pairs k₀ list k =     (k ≤ pairs) × ListedTo growers pilots tariff-hours free-hours pay k list
+Inv-loop list₀ growers pilots tariff-hours free-hours pay pairs k₀ list k = (k ≤ pairs) × ListedTo growers pilots tariff-hours free-hours pay k list
 
 abbrev μ-loop : tie.MeasureT-loop
 μ-loop list₀ growers pilots tariff-hours free-hours pay pairs k₀ list k = pairs - k
@@ -34,11 +34,10 @@ mul-pairs c =
     omega arith
 
 loop-holds : tie.Need-loop-holds Inv-loop μ-loop
-loop-holds c =
-    (
-      search needs,
-      listed-start _ _ _ _ _ _ _ _ _ (c .before .before .before .before .pre .0) (c .before .before .count .ensures) (c .before .count2 .ensures) (c .write-three .ensures),
-    )
+loop-holds c = (
+  search needs,
+  listed-start _ _ _ _ _ _ _ _ _ (c .before .before .before .before .pre .0) (c .before .before .count .ensures) (c .before .count2 .ensures) (c .write-three .ensures),
+)
 
 div-i : tie.Need-div-i Inv-loop μ-loop
 div-i c = let w = turn c in omega arith
@@ -97,11 +96,10 @@ add-k : tie.Need-add-k Inv-loop μ-loop
 add-k c = let w = turn (c .before .before .before .before .before) in omega arith
 
 loop-again : tie.Need-loop-again Inv-loop μ-loop
-loop-again c =
-    (
-      search needs,
-      listed-more _ _ _ _ _ _ _ _ _ _ _ (λ k. refl) (c .write-three2 .ensures) (c .before .before .before .before .before .before .loop .inv .1),
-    )
+loop-again c = (
+  search needs,
+  listed-more _ _ _ _ _ _ _ _ _ _ _ (λ k. refl) (c .write-three2 .ensures) (c .before .before .before .before .before .before .loop .inv .1),
+)
 
 returns : tie.Need-returns Inv-loop μ-loop
 returns c = (c .before .loop .inv .1 .long, listed-end _ _ _ _ _ _ _ (c .loop-test .left) (c .before .loop .inv .1))

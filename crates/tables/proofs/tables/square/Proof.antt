@@ -1,17 +1,11 @@
 -- `tables::square` meets its contract: the square is filled row by row.
 use Prim.Native.Nat.{_-_, _≤_, min}
 use native.Mathlib.Omega.{arith}
-use Rattle.grid.proofs.Filling.{Part, part-start, part-put, part-row, part-end, filled-as}
+use Rattle.grid.proofs.Filling.{Part, part-start, part-line, part-end, filled-as}
 use Rattle.tables.specs.View.{quantityOf, growersOf, pilotsOf}
 use borrow.Author.Needs.{needs}
 use Rattle.tables.proofs.tables.square.Statement.{statement}
 use Rattle.tables.proofs.tables.square.Tie as tie
-
-abbrev Inv-loop2 : tie.InvT-loop2
-Inv-loop2 list quantity rows columns q₀ i j₀ q j = (j ≤ columns) × Part (quantityOf quantity list) columns i j q
-
-abbrev μ-loop2 : tie.MeasureT-loop2
-μ-loop2 list quantity rows columns q₀ i j₀ q j = columns - j
 
 abbrev Inv-loop : tie.InvT-loop
 Inv-loop list quantity rows columns q₀ i₀ q i = (i ≤ rows) × Part (quantityOf quantity list) columns i 0 q
@@ -19,20 +13,13 @@ Inv-loop list quantity rows columns q₀ i₀ q i = (i ≤ rows) × Part (quanti
 abbrev μ-loop : tie.MeasureT-loop
 μ-loop list quantity rows columns q₀ i₀ q i = rows - i
 
-loop-holds : tie.Need-loop-holds Inv-loop2 μ-loop2 Inv-loop μ-loop
+loop-holds : tie.Need-loop-holds Inv-loop μ-loop
 loop-holds c = (omega arith, part-start _ _ _ (c .zeros .ensures .0) (c .zeros .ensures .1))
 
-loop2-holds : tie.Need-loop2-holds Inv-loop2 μ-loop2 Inv-loop μ-loop
-loop2-holds c = (omega arith, c .before .loop .inv .1)
+loop-again : tie.Need-loop-again Inv-loop μ-loop
+loop-again c = (omega arith, part-line _ _ _ _ _ (omega arith) (c .row-of .ensures) (c .before .before .loop .inv .1))
 
-loop2-again : tie.Need-loop2-again Inv-loop2 μ-loop2 Inv-loop μ-loop
-loop2-again c =
-    (omega arith, part-put _ _ _ _ _ _ (omega arith) (omega arith) (omega arith) (omega arith) (c .quantity-at .ensures) (c .before .before .loop2 .inv .1))
-
-loop-again : tie.Need-loop-again Inv-loop2 μ-loop2 Inv-loop μ-loop
-loop-again c = (omega arith, part-row _ _ _ _ _ (omega arith) (omega arith) (c .before .loop2 .inv .1))
-
-returns : tie.Need-returns Inv-loop2 μ-loop2 Inv-loop μ-loop
+returns : tie.Need-returns Inv-loop μ-loop
 returns c =
     let s = c .before .before .before .before .before .before .before .before in
     let list = s .args .list .now in
@@ -44,8 +31,6 @@ pub square-spec : {M : Type 1} → statement M
 square-spec =
     tie.close
     (tie.spec
-    Inv-loop2
-    μ-loop2
     Inv-loop
     μ-loop
     (λ c κs. search needs)
@@ -54,16 +39,10 @@ square-spec =
     (λ c κs. search needs)
     (λ c κs. search needs)
     loop-holds
-    loop2-holds
     (λ c κs. search needs)
-    (λ c. omega arith)
-    (λ c. omega arith)
-    (λ c. omega arith)
-    (λ c. omega arith)
-    (λ c. omega arith)
-    (λ c. omega arith)
-    loop2-again
-    (λ c. omega arith)
-    (λ c. omega arith)
+    (λ c. search needs)
+    (λ c. search needs)
+    (λ c. search needs)
+    (λ c. search needs)
     loop-again
     returns)
