@@ -1,6 +1,7 @@
 -- `marker::blocks` meets its contract: a deal at its cap does not, another by its parties' cheapest spares.
 use mathlib.Core.Path.{_∙_}
 use borrow.Author.Tests.{lt-ltb, le-ltb}
+use native.Mathlib.Omega.{arith}
 use borrow.Author.Needs.{needs}
 use Rattle.marker.proofs.deal_faults.blocks.Statement.{statement}
 use Rattle.marker.proofs.deal_faults.blocks.Tie as tie
@@ -20,9 +21,9 @@ blocks-spec =
     returns
     (λ c κs. search needs)
     (λ c κs. search needs)
-    (λ c. search needs)
-    (λ c. search needs)
-    (λ c. search needs)
-    (λ c. search needs)
+    (λ c. omega arith)
+    (λ c. omega arith)
+    (λ c. omega arith)
+    (λ c. omega arith)
     (λ c κs. search needs)
     returns-2)

@@ -1,4 +1,5 @@
 -- `marker::hours_with` meets its contract: an arm for each deal.
+use native.Mathlib.Omega.{arith}
 use borrow.Author.Needs.{needs}
 use Rattle.marker.proofs.deal_faults.hours_with.Statement.{statement}
 use Rattle.marker.proofs.deal_faults.hours_with.Tie as tie
@@ -13,11 +14,11 @@ pub hours-with-spec : {M : Type 1} → statement M
 hours-with-spec =
     tie.close
     (tie.spec
-    (λ c. search needs)
-    (λ c. search needs)
-    (λ c. search needs)
-    (λ c. search needs)
-    (λ c. search needs)
-    (λ c. search needs)
+    (λ c. omega arith)
+    (λ c. omega arith)
+    (λ c. omega arith)
+    (λ c. omega arith)
+    (λ c. omega arith)
+    (λ c. omega arith)
     returns
     returns-2)
