@@ -1,14 +1,13 @@
 -- The sheet of a ticket and a sound settlement: its numbers are in the table, and written from squares it is the sheet of the lists.
 -- Assumes nothing.
-use mathlib.Core.Path.{_≡_, refl, ap}
+use mathlib.Core.Path.{_≡_, refl, sym, ap}
 use mathlib.Core.Bool.{Bool, true, false, cond}
 use mathlib.Core.List.{List, [], _∷_, _++_}
-use Prim.Native.Nat.{ℕ, zero, suc, _+_, _*_, _-_, _≤_, _<_, min}
+use Prim.Native.Nat.{ℕ, zero, suc, _+_, _*_, _-_, _≤_, _<_}
 use native.Mathlib.Omega.{arith}
 use lib.Dec.{eqb}
 use lib.ListN.{length, getD}
 use Rattle.grid.specs.Grid.{Grid, at}
-use Rattle.grid.specs.Fill.{Filled}
 use Rattle.grid.proofs.Places.{prod-small}
 use Rattle.market.specs.declared.Deal.the-variants.{Tariff, Free}
 use Rattle.market.specs.Market.{Ticket, Settlement}
@@ -17,7 +16,8 @@ use Rattle.tables.specs.declared.Quantity.{Quantity}
 use Rattle.tables.specs.declared.Quantity.the-variants.{TariffCap, TariffGain, TariffPay, JointGain}
 use Rattle.tables.specs.declared.Quantity.the-variants.{TariffHours, FreeHours, Pay}
 use Rattle.marker.specs.declared.Verdict.{Verdict}
-use Rattle.tables.specs.View.{growersOf, pilotsOf, quantityOf, ticketOf, settlementOf}
+use Rattle.tables.specs.View.{growersOf, pilotsOf, quantityOf, ticketOf, settlementOf, Holds}
+use Rattle.tables.proofs.Meaning.{held}
 use Rattle.marker.specs.Verdict.{judged}
 use Rattle.marker.specs.Values.{verdictCount}
 use Rattle.marker.specs.Marked.{marked}
@@ -57,12 +57,12 @@ first-capped xs p h = let e : p + 0 ≡ p = omega arith in rw e h
 
 -- the quantities of the lists in squares, as far as the market reaches
 pub record Squares (xs ys : List ℕ) (tariffHours tariffGain tariffPay freeHours jointGain pay : Grid) : Type 0 where
-  pub tariffHoursIn : Filled (quantityOf TariffHours ys) (min 16 (growersOf ys)) (min 16 (pilotsOf ys)) tariffHours
-  pub tariffGainIn : Filled (quantityOf TariffGain xs) (min 16 (growersOf xs)) (min 16 (pilotsOf xs)) tariffGain
-  pub tariffPayIn : Filled (quantityOf TariffPay xs) (min 16 (growersOf xs)) (min 16 (pilotsOf xs)) tariffPay
-  pub freeHoursIn : Filled (quantityOf FreeHours ys) (min 16 (growersOf ys)) (min 16 (pilotsOf ys)) freeHours
-  pub jointGainIn : Filled (quantityOf JointGain xs) (min 16 (growersOf xs)) (min 16 (pilotsOf xs)) jointGain
-  pub payIn : Filled (quantityOf Pay ys) (min 16 (growersOf ys)) (min 16 (pilotsOf ys)) pay
+  pub tariffHoursIn : Holds TariffHours ys tariffHours
+  pub tariffGainIn : Holds TariffGain xs tariffGain
+  pub tariffPayIn : Holds TariffPay xs tariffPay
+  pub freeHoursIn : Holds FreeHours ys freeHours
+  pub jointGainIn : Holds JointGain xs jointGain
+  pub payIn : Holds Pay ys pay
 
 module _ {ticket xs file ys : List ℕ} (s : Settles ticket xs file ys) where
   pub few-growers : growersOf xs ≤ 16
@@ -105,10 +105,10 @@ module _ {ticket xs file ys : List ℕ} (s : Settles ticket xs file ys) where
   amounts-small i j hi hj =
       let d = unpacked-deal ticket xs (s .unpacks) i j hi hj in (d .gainCapped, d .payCapped, d .freeGainCapped)
 
-  cell-is : (q : Quantity) (list : List ℕ) (g : Grid) → growersOf list ≡ growersOf xs → pilotsOf list ≡ pilotsOf xs →
-      Filled (quantityOf q list) (min 16 (growersOf list)) (min 16 (pilotsOf list)) g → (i j : ℕ) → i < growersOf xs → j < pilotsOf xs →
-      at g i j ≡ quantityOf q list i j
-  cell-is q list g eg ep f i j hi hj = f .inner i j (omega (arith, few-growers, eg)) (omega (arith, few-pilots, ep))
+  cell-is : (q : Quantity) (list : List ℕ) (g : Grid) → growersOf list ≡ growersOf xs → pilotsOf list ≡ pilotsOf xs → Holds q list g →
+      (i j : ℕ) → i < growersOf xs → j < pilotsOf xs → at g i j ≡ quantityOf q list i j
+  cell-is q list g eg ep f i j hi hj =
+      sym (held list (growersOf xs) (pilotsOf xs) (sym eg) (sym ep) few-growers few-pilots q f i j hi hj)
 
   module _ (tariffHours tariffGain tariffPay freeHours jointGain pay : Grid)
       (filled : Squares xs ys tariffHours tariffGain tariffPay freeHours jointGain pay) where
