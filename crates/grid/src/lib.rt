@@ -104,6 +104,13 @@ pub fn zero_row() -> [u16; 16]
     [0u16; 16]
 }
 
+// A copy of a lent square. Whoever lends a square on knows by it that there are 16 rows of 16 numbers, which a reference does not tell.
+pub fn copied(sq: &[[u16; 16]; 16]) -> [[u16; 16]; 16]
+    ensures { λ r. ⌜ r ≡ now (sq .entry) ⌝ }
+{
+    *sq
+}
+
 // So many rows and columns of a square on their side: its cell (i, j) becomes the cell (j, i).
 pub fn turned(sq: [[u16; 16]; 16], rows: usize, columns: usize) -> [[u16; 16]; 16]
     ensures { λ r. ⌜ Filled (λ j i. at sq i j) (min 16 columns) (min 16 rows) r ⌝ }

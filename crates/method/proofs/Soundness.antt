@@ -17,7 +17,7 @@ use Rattle.method.specs.declared.Agreed.{Agreed}
 use Rattle.method.specs.View.{line, ticket, heldIn}
 use Rattle.method.specs.Given.{TermsOf}
 use Rattle.method.specs.State.{Ended}
-use Rattle.method.specs.Result.{Flown, NothingBeyond}
+use Rattle.method.specs.Result.{Flown, Beyond}
 
 module _ (n m : ℕ) (growerHours pilotHours : List ℕ) (tariffCap tariffGain tariffPay freeCap jointGain : Grid) (terms : List (List Terms))
     (made : TermsOf tariffCap tariffGain tariffPay freeCap jointGain n m terms) where
@@ -28,18 +28,18 @@ module _ (n m : ℕ) (growerHours pilotHours : List ℕ) (tariffCap tariffGain t
     pilots = refl;
     growerHours = λ i hi. refl;
     pilotHours = λ j hj. refl;
-    tariffCap = λ i j hi hj. sym (ap (λ (p : Terms). p .«tariff_cap») (made i hi j hj));
-    tariffGain = λ i j hi hj. sym (ap (λ (p : Terms). p .«tariff_gain») (made i hi j hj));
-    tariffPay = λ i j hi hj. sym (ap (λ (p : Terms). p .«tariff_pay») (made i hi j hj));
-    freeCap = λ i j hi hj. sym (ap (λ (p : Terms). p .«free_cap») (made i hi j hj));
-    jointGain = λ i j hi hj. sym (ap (λ (p : Terms). p .«joint_gain») (made i hi j hj));
+    tariffCap = λ i j hi hj. sym (ap (λ (p : Terms). p .«tariff_cap») (made i j hi hj));
+    tariffGain = λ i j hi hj. sym (ap (λ (p : Terms). p .«tariff_gain») (made i j hi hj));
+    tariffPay = λ i j hi hj. sym (ap (λ (p : Terms). p .«tariff_pay») (made i j hi hj));
+    freeCap = λ i j hi hj. sym (ap (λ (p : Terms). p .«free_cap») (made i j hi hj));
+    jointGain = λ i j hi hj. sym (ap (λ (p : Terms). p .«joint_gain») (made i j hi hj));
     growerStandby = λ i hi. refl;
     pilotStandby = λ j hj. refl;
   }
 
-  module _ {prices : List ℕ} {held : List (List Agreed)} {shift : ℕ} {tariffHours freeHours pay : Grid} where
+  module _ {prices : List ℕ} {held : List (List Agreed)} {shift : ℕ} {tariffBefore freeBefore tariffHours freeHours pay : Grid} where
     pub flown-sound : Ended (ticket n m growerHours pilotHours terms) prices held → GoodShift (ticket 0 m [] [] []) (line prices) shift →
-        Flown held prices shift n m tariffHours freeHours pay →
+        Flown held prices shift n m tariffBefore freeBefore tariffHours freeHours pay →
         Sound (ticketIn n m growerHours pilotHours tariffCap tariffGain tariffPay freeCap jointGain) (settlementIn tariffHours freeHours pay)
     flown-sound end g f =
         sound-same terms-same (record { hours = hours; pay = f .payIn .inner })
@@ -49,10 +49,10 @@ module _ (n m : ℕ) (growerHours pilotHours : List ℕ) (tariffCap tariffGain t
         hours Tariff = f .tariffHoursIn .inner
         hours Free = f .freeHoursIn .inner
 
-pub flown-within : {n m : ℕ} {prices : List ℕ} {held : List (List Agreed)} {shift : ℕ} {tariffHours freeHours pay : Grid} →
-    Flown held prices shift n m tariffHours freeHours pay → NothingBeyond n m tariffHours freeHours pay
-flown-within f = record {
-  noTariffHours = f .tariffHoursIn .outer;
-  noFreeHours = f .freeHoursIn .outer;
+pub flown-beyond : {n m : ℕ} {prices : List ℕ} {held : List (List Agreed)} {shift : ℕ} {tariffBefore freeBefore tariffHours freeHours pay : Grid} →
+    Flown held prices shift n m tariffBefore freeBefore tariffHours freeHours pay → Beyond n m tariffBefore freeBefore tariffHours freeHours pay
+flown-beyond f = record {
+  tariffHoursKept = f .tariffHoursIn .outer;
+  freeHoursKept = f .freeHoursIn .outer;
   noPay = f .payIn .outer;
 }

@@ -2,27 +2,22 @@
 -- Assumes nothing.
 use Prim.Native.Nat.{ℕ, _<_}
 use mathlib.Core.Path.{_≡_}
-use mathlib.Core.List.{List, []}
-use lib.ListN.{getD}
-use Rattle.grid.specs.Grid.{Grid}
+use mathlib.Core.List.{List}
+use Rattle.grid.specs.Grid.{Grid, at}
 use Rattle.method.specs.declared.Terms.{Terms}
-use Rattle.method.specs.View.{line, termsIn}
+use Rattle.method.specs.View.{termsAt}
 
--- the terms of a grower and pilot j, from the grower's five rows
-abbrev pub termsFrom : List ℕ → List ℕ → List ℕ → List ℕ → List ℕ → ℕ → Terms
-termsFrom tariffCap tariffGain tariffPay freeCap jointGain j = record {
-  «tariff_cap» = line tariffCap j;
-  «tariff_gain» = line tariffGain j;
-  «tariff_pay» = line tariffPay j;
-  «free_cap» = line freeCap j;
-  «joint_gain» = line jointGain j;
+-- the terms of grower i and pilot j
+abbrev pub termsFrom : Grid → Grid → Grid → Grid → Grid → ℕ → ℕ → Terms
+termsFrom tariffCap tariffGain tariffPay freeCap jointGain i j = record {
+  «tariff_cap» = at tariffCap i j;
+  «tariff_gain» = at tariffGain i j;
+  «tariff_pay» = at tariffPay i j;
+  «free_cap» = at freeCap i j;
+  «joint_gain» = at jointGain i j;
 }
 
--- a row with the terms of m pilots, and a square with those of n growers and m pilots
-abbrev pub TermsOfGrower : List ℕ → List ℕ → List ℕ → List ℕ → List ℕ → ℕ → List Terms → Type 0
-TermsOfGrower tariffCap tariffGain tariffPay freeCap jointGain m row =
-    (j : ℕ) → j < m → termsIn row j ≡ termsFrom tariffCap tariffGain tariffPay freeCap jointGain j
-
+-- a square with those of n growers and m pilots
 abbrev pub TermsOf : Grid → Grid → Grid → Grid → Grid → ℕ → ℕ → List (List Terms) → Type 0
-TermsOf tariffCap tariffGain tariffPay freeCap jointGain n m terms = (i : ℕ) → i < n →
-    TermsOfGrower (getD tariffCap i []) (getD tariffGain i []) (getD tariffPay i []) (getD freeCap i []) (getD jointGain i []) m (getD terms i [])
+TermsOf tariffCap tariffGain tariffPay freeCap jointGain n m terms = (i j : ℕ) → i < n → j < m →
+    termsAt terms i j ≡ termsFrom tariffCap tariffGain tariffPay freeCap jointGain i j

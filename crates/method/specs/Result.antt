@@ -7,7 +7,7 @@ use mathlib.Core.List.{List}
 use lib.Dec.{ltb}
 use Rattle.grid.specs.Pick.{pick}
 use Rattle.grid.specs.Grid.{Grid, at}
-use Rattle.grid.specs.Fill.{Filled}
+use Rattle.grid.specs.Fill.{Filled, FilledOver}
 use Rattle.market.specs.declared.Deal.the-variants.{Tariff, Free}
 use Rattle.market.specs.Method.{hoursOf}
 use Rattle.method.specs.declared.Agreed.{Agreed}
@@ -21,16 +21,16 @@ payAt price shift hours = pick (ltb 0 hours) ((price + shift) / 18) 0
 abbrev pub paysOf : List (List Agreed) → List ℕ → ℕ → ℕ → ℕ → ℕ
 paysOf held prices shift i j = payAt (line prices j) shift (hoursOf (heldIn held) Free i j)
 
--- what n growers and m pilots fly that hold these hours, and 0 elsewhere
-pub record Flown (held : List (List Agreed)) (prices : List ℕ) (shift n m : ℕ) (tariffHours freeHours pay : Grid) : Type 0 where
-  pub tariffHoursIn : Filled (hoursOf (heldIn held) Tariff) n m tariffHours
-  pub freeHoursIn : Filled (hoursOf (heldIn held) Free) n m freeHours
+-- what n growers and m pilots fly that hold these hours, in squares that held something before
+pub record Flown (held : List (List Agreed)) (prices : List ℕ) (shift n m : ℕ) (tariffBefore freeBefore tariffHours freeHours pay : Grid) : Type 0 where
+  pub tariffHoursIn : FilledOver tariffBefore (hoursOf (heldIn held) Tariff) n m tariffHours
+  pub freeHoursIn : FilledOver freeBefore (hoursOf (heldIn held) Free) n m freeHours
   pub payIn : Filled (paysOf held prices shift) n m pay
 
--- no pair beyond n growers and m pilots has hours or pay
-pub record NothingBeyond (n m : ℕ) (tariffHours freeHours pay : Grid) : Type 0 where
-  pub noTariffHours : (i j : ℕ) → (n ≤ i) ⊎ (m ≤ j) → at tariffHours i j ≡ 0
-  pub noFreeHours : (i j : ℕ) → (n ≤ i) ⊎ (m ≤ j) → at freeHours i j ≡ 0
+-- beyond n growers and m pilots the squares of hours stand as they stood, and there is no pay
+pub record Beyond (n m : ℕ) (tariffBefore freeBefore tariffHours freeHours pay : Grid) : Type 0 where
+  pub tariffHoursKept : (i j : ℕ) → (n ≤ i) ⊎ (m ≤ j) → at tariffHours i j ≡ at tariffBefore i j
+  pub freeHoursKept : (i j : ℕ) → (n ≤ i) ⊎ (m ≤ j) → at freeHours i j ≡ at freeBefore i j
   pub noPay : (i j : ℕ) → (n ≤ i) ⊎ (m ≤ j) → at pay i j ≡ 0
 
 -- j is the first pilot whose price, moved up by shift, is a whole number of euros; pilots or more if there is none

@@ -77,7 +77,7 @@ fn pay_for(hours: u16, price: u32, shift: u32) -> u16
     }
 }
 
-// Writes the hours that everybody flies, and returns the pay.
+// Writes the hours that everybody flies, and returns the pay. The copies only tell the proof that squares are lent.
 pub(crate) fn write_flown(
     growers: usize,
     pilots: usize,
@@ -89,10 +89,11 @@ pub(crate) fn write_flown(
 ) -> [[u16; 16]; 16]
     requires { ⌜ (growers ≤ 16) × (pilots ≤ 16) × (shift ≤ 16) × ((j : ℕ) → j < pilots → line price j ≤ 1179631) ⌝ }
     requires { ⌜ ((d : Deal) (i j : ℕ) → i < growers → j < pilots → hoursOf (heldIn held) d i j < 65536) ⌝ }
-    ensures { λ r. ⌜ Flown held price shift growers pilots (now («tariff_hours» .exit)) (now («free_hours» .exit)) r ⌝ }
+    ensures { λ r. ⌜ Flown held price shift growers pilots (now («tariff_hours» .entry)) (now («free_hours» .entry))
+        (now («tariff_hours» .exit)) (now («free_hours» .exit)) r ⌝ }
 {
-    *tariff_hours = grid::zeros();
-    *free_hours = grid::zeros();
+    let _by_tariff = grid::copied(&*tariff_hours);
+    let _free = grid::copied(&*free_hours);
     let mut pay = grid::zeros();
     for i in 0..growers {
         for j in 0..pilots {

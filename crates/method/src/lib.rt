@@ -20,7 +20,7 @@ mod turns;
 ghost use Prim.Native.Nat.{min};
 ghost use Rattle.market.specs.Market.{Sound};
 ghost use Rattle.market.specs.Tables.{ticketIn, settlementIn};
-ghost use Rattle.method.specs.Result.{NothingBeyond};
+ghost use Rattle.method.specs.Result.{Beyond};
 use market::Deal;
 
 // What the ticket says of a grower and a pilot: caps in hours, amounts in euros per hour.
@@ -59,7 +59,8 @@ pub(crate) enum LateHours {
 }
 
 // A sound settlement of the market of the first growers and pilots, at most 16 of each, whatever their hours, caps and amounts: writes
-// the hours of tariff deals and of free deals, and returns the pay per free hour. Pairs beyond those have none.
+// the hours of tariff deals and of free deals, and returns the pay per free hour. Beyond those growers and pilots the hours that were lent
+// stay as they are, and there is no pay.
 pub fn settle_squares(
     growers: usize,
     pilots: usize,
@@ -76,7 +77,8 @@ pub fn settle_squares(
     ensures { λ r. ⌜ Sound
         (ticketIn (min 16 growers) (min 16 pilots) «grower_hours» «pilot_hours» «tariff_cap» «tariff_gain» «tariff_pay» «free_cap» «joint_gain»)
         (settlementIn (now («tariff_hours» .exit)) (now («free_hours» .exit)) r) ⌝ }
-    ensures { λ r. ⌜ NothingBeyond (min 16 growers) (min 16 pilots) (now («tariff_hours» .exit)) (now («free_hours» .exit)) r ⌝ }
+    ensures { λ r. ⌜ Beyond (min 16 growers) (min 16 pilots) (now («tariff_hours» .entry)) (now («free_hours» .entry))
+        (now («tariff_hours» .exit)) (now («free_hours» .exit)) r ⌝ }
 {
     let n = grid::within(growers);
     let m = grid::within(pilots);

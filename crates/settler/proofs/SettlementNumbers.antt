@@ -106,15 +106,18 @@ module _ {n m : ℕ} {tariffHours freeHours pay : Grid} {list : List ℕ} (l : L
 
 -- A sound settlement of the ticket that a list means, written into a list: the front of that list is sound.
 pub sound-front : (xs : List ℕ) → IsTicket xs → (t : Ticket) → SameTicket t (ticketOf xs) → (tariffHours freeHours pay : Grid) →
-    Sound t (settlementIn tariffHours freeHours pay) → (list : List ℕ) → length list ≡ 771 →
-    Listed (growersOf xs) (pilotsOf xs) tariffHours freeHours pay list → SoundFront xs list
-sound-front xs is t same tariffHours freeHours pay s list long l = record {
+    Sound t (settlementIn tariffHours freeHours pay) → (list : List ℕ) → length list ≡ 771 → (n m : ℕ) → n ≡ growersOf xs → m ≡ pilotsOf xs →
+    Listed n m tariffHours freeHours pay list → SoundFront xs list
+sound-front xs is t same tariffHours freeHours pay s list long n m en em listed = record {
   good = record { sound = sound; nobodyGains = nothing-blocks-iff (ticketOf xs) _ .0 (sound .nothingBlocks) };
   bytes = pack (settlementFront xs list);
   packs = settlement-accepted (growersOf xs) (pilotsOf xs) (settlementFront xs list) (own-shape l long hn hm small) .0;
   short = own-short l long hn hm small few;
 }
   where
+    l : Listed (growersOf xs) (pilotsOf xs) tariffHours freeHours pay list
+    l = rw (en, em) at listed
+
     hn : growersOf xs ≤ 16
     hn = limits is .growers
 

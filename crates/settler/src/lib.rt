@@ -9,7 +9,6 @@ use listing::list_settlement;
 use reader::NO_ROOM;
 use reader::Reply;
 use tables::Quantity;
-use tables::square;
 
 // Lists the numbers of a sound settlement of a ticket.
 fn list_sound(ticket: &[u16], list: &mut [u16; 771])
@@ -18,22 +17,34 @@ fn list_sound(ticket: &[u16], list: &mut [u16; 771])
 {
     let growers = tables::growers(ticket);
     let pilots = tables::pilots(ticket);
+    let grower_hours = tables::grower_hours(ticket);
+    let pilot_hours = tables::pilot_hours(ticket);
+    let mut tariff_cap = grid::zeros();
+    tables::fill(ticket, Quantity::TariffCap, &mut tariff_cap);
+    let mut tariff_gain = grid::zeros();
+    tables::fill(ticket, Quantity::TariffGain, &mut tariff_gain);
+    let mut tariff_pay = grid::zeros();
+    tables::fill(ticket, Quantity::TariffPay, &mut tariff_pay);
+    let mut free_cap = grid::zeros();
+    tables::fill(ticket, Quantity::FreeCap, &mut free_cap);
+    let mut joint_gain = grid::zeros();
+    tables::fill(ticket, Quantity::JointGain, &mut joint_gain);
     let mut tariff_hours = grid::zeros();
     let mut free_hours = grid::zeros();
     let pay = method::settle_squares(
         growers,
         pilots,
-        tables::grower_hours(ticket),
-        tables::pilot_hours(ticket),
-        square(ticket, Quantity::TariffCap),
-        square(ticket, Quantity::TariffGain),
-        square(ticket, Quantity::TariffPay),
-        square(ticket, Quantity::FreeCap),
-        square(ticket, Quantity::JointGain),
+        grower_hours,
+        pilot_hours,
+        tariff_cap,
+        tariff_gain,
+        tariff_pay,
+        free_cap,
+        joint_gain,
         &mut tariff_hours,
         &mut free_hours,
     );
-    list_settlement(list, growers, pilots, tariff_hours, free_hours, pay);
+    list_settlement(list, growers, pilots, &tariff_hours, &free_hours, pay);
 }
 
 // Settles a ticket's numbers into a lent buffer, which must have room for the longest settlement that the ticket could have.

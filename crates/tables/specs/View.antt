@@ -6,7 +6,7 @@ use Prim.Native.Nat.{ℕ, _+_, _*_, min}
 use mathlib.Core.List.{List}
 use lib.ListN.{getD}
 use Rattle.grid.specs.Grid.{Grid}
-use Rattle.grid.specs.Fill.{Filled, FilledRow}
+use Rattle.grid.specs.Fill.{Filled, FilledOver, FilledRow}
 use Rattle.market.specs.Market.{Ticket, Settlement}
 use Rattle.market.specs.Tables.{byDeal}
 use Rattle.tables.specs.declared.Quantity.{Quantity}
@@ -70,6 +70,10 @@ settlementOf list = record {
 -- A square holds a quantity of a list: that of each pair, as far as the square reaches, and 0 elsewhere.
 abbrev pub Holds : Quantity → List ℕ → Grid → Type 0
 Holds quantity list square = Filled (quantityOf quantity list) (min 16 (growersOf list)) (min 16 (pilotsOf list)) square
+
+-- The same of a square that held something before, which stands elsewhere as it stood.
+abbrev pub HoldsOver : Grid → Quantity → List ℕ → Grid → Type 0
+HoldsOver before quantity list square = FilledOver before (quantityOf quantity list) (min 16 (growersOf list)) (min 16 (pilotsOf list)) square
 
 -- Rows and squares hold all that a ticket's list says.
 pub record HoldTicket (list growerHours pilotHours : List ℕ) (tariffCap tariffGain tariffPay freeCap jointGain : Grid) : Type 0 where

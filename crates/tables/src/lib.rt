@@ -5,6 +5,7 @@ mod tables;
 
 pub use lists::settlement_list;
 pub use lists::ticket_list;
+pub use tables::fill;
 pub use tables::grower_hours;
 pub use tables::growers;
 pub use tables::pilot_hours;

@@ -3,7 +3,7 @@ ghost use mathlib.Core.Path.{_≡_};
 ghost use Prim.Native.Nat.{_+_, _*_, _<_, _≤_, min};
 ghost use lib.ListN.{getD};
 ghost use Rattle.grid.specs.Fill.{FilledRow};
-ghost use Rattle.tables.specs.View.{growersOf, pilotsOf, pairPlace, placeOf, quantityOf, growerHoursOf, pilotHoursOf, Holds};
+ghost use Rattle.tables.specs.View.{growersOf, pilotsOf, pairPlace, placeOf, quantityOf, growerHoursOf, pilotHoursOf, Holds, HoldsOver};
 use crate::Quantity;
 
 // Where the k-th of `each` numbers of a pair stands. The product is proved to fit here, once.
@@ -54,28 +54,26 @@ fn quantity_at(list: &[u16], quantity: Quantity, i: usize, j: usize) -> u16
     grid::entry(list, place(quantity, n, m, i, j))
 }
 
-// A quantity of grower i with each of m pilots.
-fn row_of(list: &[u16], quantity: Quantity, i: usize, m: usize) -> [u16; 16]
-    requires { ⌜ (i < 16) × (m ≤ 16) ⌝ }
-    ensures { λ r. ⌜ FilledRow (quantityOf quantity (now (list .entry)) i) m r ⌝ }
+// Writes a quantity of every pair into a lent square, growers by pilots, as far as the square reaches. Its other cells stay as they are.
+pub fn fill(list: &[u16], quantity: Quantity, into: &mut [[u16; 16]; 16])
+    ensures { λ _. ⌜ HoldsOver (now (into .entry)) quantity (now (list .entry)) (now (into .exit)) ⌝ }
 {
-    let mut r = grid::zero_row();
-    for j in 0..m {
-        r[j] = quantity_at(list, quantity, i, j);
+    let _before = grid::copied(&*into);
+    let rows = grid::within(growers(list));
+    let columns = grid::within(pilots(list));
+    for i in 0..rows {
+        for j in 0..columns {
+            into[i][j] = quantity_at(list, quantity, i, j);
+        }
     }
-    r
 }
 
-// A quantity of every pair, growers by pilots, as far as the square reaches; 0 in all other cells.
+// The same in a square of its own: 0 in all other cells.
 pub fn square(list: &[u16], quantity: Quantity) -> [[u16; 16]; 16]
     ensures { λ r. ⌜ Holds quantity (now (list .entry)) r ⌝ }
 {
-    let rows = grid::within(growers(list));
-    let columns = grid::within(pilots(list));
     let mut q = grid::zeros();
-    for i in 0..rows {
-        q[i] = row_of(list, quantity, i, columns);
-    }
+    fill(list, quantity, &mut q);
     q
 }
 

@@ -5,7 +5,7 @@ use Rattle.method.specs.View.{ticket}
 use Rattle.method.specs.State.{Fit}
 use Rattle.method.proofs.Bounds.{fits}
 use Rattle.method.proofs.TurnLaws.{hours-fit}
-use Rattle.method.proofs.Soundness.{flown-sound, flown-within}
+use Rattle.method.proofs.Soundness.{flown-sound, flown-beyond}
 use borrow.Author.Needs.{needs}
 use Rattle.method.proofs.settle_squares.Statement.{statement}
 use Rattle.method.proofs.settle_squares.Tie as tie
@@ -35,7 +35,7 @@ returns c =
     let s = flown-sound (n .result) (m .result) (a .grower-hours) (a .pilot-hours)
     (a .tariff-cap) (a .tariff-gain) (a .tariff-pay) (a .free-cap) (a .joint-gain) (t .result) (t .ensures)
     (c .before .before .before .before .run .ensures) (c .before .before .before .rounding .ensures) f in
-    (rw (n .ensures .0, m .ensures .0) at s, rw (n .ensures .0, m .ensures .0) at (flown-within f))
+    (rw (n .ensures .0, m .ensures .0) at s, rw (n .ensures .0, m .ensures .0) at (flown-beyond f))
 
 pub settle-squares-spec : {M : Type 1} → statement M
 settle-squares-spec =

@@ -2,37 +2,39 @@
 use Prim.Native.Nat.{_-_, _≤_}
 use native.Mathlib.Omega.{arith}
 use Rattle.grid.specs.Grid.{at}
-use Rattle.grid.proofs.Filling.{Part, part-start, part-put, part-row, part-end}
+use Rattle.grid.proofs.Filling.{Part, RowPart, part-start, part-put, part-row, part-end, filled-zeros}
 use borrow.Author.Needs.{needs}
 use Rattle.marker.proofs.parties.grower_shares.Statement.{statement}
 use Rattle.marker.proofs.parties.grower_shares.Tie as tie
 
 abbrev Inv-loop2 : tie.InvT-loop2
-Inv-loop2 n m joint-gain pay q₀ i j₀ q j = (j ≤ m) × Part (λ a b. at joint-gain a b - at pay a b) m i j q
+Inv-loop2 n m joint-gain pay q₀ i j₀ q j = (j ≤ m) × RowPart (λ a b. at joint-gain a b - at pay a b) m i j q₀ q
 
 abbrev μ-loop2 : tie.MeasureT-loop2
 μ-loop2 n m joint-gain pay q₀ i j₀ q j = m - j
 
 abbrev Inv-loop : tie.InvT-loop
-Inv-loop n m joint-gain pay q₀ i₀ q i = (i ≤ n) × Part (λ a b. at joint-gain a b - at pay a b) m i 0 q
+Inv-loop n m joint-gain pay q₀ i₀ q i = (i ≤ n) × Part q₀ (λ a b. at joint-gain a b - at pay a b) m i 0 q
 
 abbrev μ-loop : tie.MeasureT-loop
 μ-loop n m joint-gain pay q₀ i₀ q i = n - i
 
 loop-holds : tie.Need-loop-holds Inv-loop2 μ-loop2 Inv-loop μ-loop
-loop-holds c = (omega arith, part-start _ _ _ (c .zeros .ensures .0) (c .zeros .ensures .1))
+loop-holds c = (omega arith, part-start _ _ _ (c .zeros .ensures .0))
 
 loop2-holds : tie.Need-loop2-holds Inv-loop2 μ-loop2 Inv-loop μ-loop
-loop2-holds c = (omega arith, c .before .loop .inv .1)
+loop2-holds c = (omega arith, λ before p. p)
 
 loop2-again : tie.Need-loop2-again Inv-loop2 μ-loop2 Inv-loop μ-loop
-loop2-again c = (omega arith, part-put _ _ _ _ _ _ (omega arith) (omega arith) (omega arith) (omega arith) (c .less .ensures) (c .before .before .before .before .loop2 .inv .1))
+loop2-again c =
+    let row = c .before .before .before .before .loop2 .inv .1 in
+    (omega arith, λ before p. part-put _ _ _ _ _ _ _ (omega arith) (omega arith) (omega arith) (omega arith) (c .less .ensures) (row before p))
 
 loop-again : tie.Need-loop-again Inv-loop2 μ-loop2 Inv-loop μ-loop
-loop-again c = (omega arith, part-row _ _ _ _ _ (omega arith) (omega arith) (c .before .loop2 .inv .1))
+loop-again c = (omega arith, part-row _ _ _ _ _ _ (omega arith) (omega arith) (c .before .loop2 .inv .1 _ (c .before .before .before .loop .inv .1)))
 
 returns : tie.Need-returns Inv-loop2 μ-loop2 Inv-loop μ-loop
-returns c = part-end _ _ _ _ _ (omega arith) (omega arith) (c .before .loop .inv .1)
+returns c = filled-zeros _ _ _ _ _ (c .before .before .zeros .ensures .1) (part-end _ _ _ _ _ _ (omega arith) (omega arith) (c .before .loop .inv .1))
 
 pub grower-shares-spec : {M : Type 1} → statement M
 grower-shares-spec =
