@@ -1,4 +1,3 @@
-pub mod TableRule
 pub mod PageWriting
 pub mod Spelling
 pub mod LineLaws

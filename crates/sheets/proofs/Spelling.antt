@@ -5,7 +5,8 @@ use mathlib.Core.List.{[], _∷_}
 use Prim.Native.Nat.{ℕ, zero, suc, _+_, _*_, _/_, _%_, _<_, _≤_}
 use native.Mathlib.Omega.{arith}
 use lib.ListN.{length}
-use Rattle.sheets.specs.Decimal.{digit, spelled, decimal, packed}
+use Rattle.amounts.specs.Packed.{packed}
+use Rattle.sheets.specs.Decimal.{digit, spelled, decimal}
 
 module _ (h t u : ℕ) where
   pub units-alone : (b : ℕ) → h ≡ 0 → t ≡ 0 → b ≡ digit u → b ∷ [] ≡ spelled h t u

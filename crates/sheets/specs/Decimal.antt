@@ -1,6 +1,6 @@
 -- A number below 1000 in decimal digits.
 -- Assumes nothing.
-use Prim.Native.Nat.{ℕ, zero, suc, _+_, _*_, _/_, _%_}
+use Prim.Native.Nat.{ℕ, zero, suc, _+_, _/_, _%_}
 use mathlib.Core.List.{List, [], _∷_}
 
 -- the byte of a digit
@@ -15,7 +15,3 @@ spelled (suc hundreds) tens units = digit (suc hundreds) ∷ digit tens ∷ digi
 
 unfoldable pub decimal : ℕ → List ℕ
 decimal n = spelled (n / 100) (n / 10 % 10) (n % 10)
-
--- the rule of the table: three digits in one number, four bits each
-abbrev pub packed : ℕ → ℕ
-packed n = n / 100 * 256 + n / 10 % 10 * 16 + n % 10

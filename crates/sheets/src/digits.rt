@@ -4,7 +4,6 @@ ghost use Prim.Native.Nat.{_+_, _<_, _≤_};
 ghost use Rattle.sheets.specs.Decimal.{digit, spelled, decimal};
 ghost use Rattle.sheets.specs.Writing.{pageBytes, Wrote};
 use crate::lines::put;
-use crate::table::packed_digits;
 
 // Digits follow one another from the byte of 0 on, which is 48.
 fn byte_of(d: usize) -> u8
@@ -36,7 +35,7 @@ pub(crate) fn amount(page: &mut [u8; 8216], at: usize, n: u16) -> usize
     requires { ⌜ (n ≤ 500) × (at + 3 ≤ pageBytes) ⌝ }
     ensures { λ r. ⌜ Wrote (now (page .entry)) (now (page .exit)) at r (decimal n) ⌝ }
 {
-    let digits = grid::index(packed_digits(grid::index(n)));
+    let digits = grid::index(amounts::packed_digits(grid::index(n)));
     spell(page, at, digits / 256, digits / 16 % 16, digits % 16)
 }
 

@@ -4,7 +4,6 @@ mod digits;
 mod lines;
 mod pairs;
 mod settled;
-mod table;
 
 ghost use mathlib.Core.Path.{_≡_};
 ghost use Prim.Native.Nat.{_≤_};

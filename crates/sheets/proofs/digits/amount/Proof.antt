@@ -1,8 +1,9 @@
 -- `sheets::digits::amount` meets its contract: the table's entry is taken apart into the amount's three digits, which are spelled.
 -- Assumes nothing.
 use mathlib.Core.Path.{_∙_, ap}
+use native.Mathlib.Omega.{arith}
 use borrow.Author.Needs.{needs}
-use Rattle.sheets.specs.Decimal.{packed}
+use Rattle.amounts.specs.Packed.{packed}
 use Rattle.sheets.proofs.PageWriting.{wrote-same}
 use Rattle.sheets.proofs.Spelling.{Digits, packed-apart, digits-small, packed-spelled}
 use Rattle.sheets.proofs.digits.amount.Statement.{statement}
@@ -10,7 +11,8 @@ use Rattle.sheets.proofs.digits.amount.Tie as tie
 
 entry : (c : tie.After-index2) → Digits (c .before .before .before .args .n) (c .index2 .result)
 entry c =
-    packed-apart _ _ (c .before .before .before .pre .0) (c .index2 .ensures .0 ∙ c .before .packed-digits .ensures ∙ ap packed (c .before .before .index .ensures .0))
+    packed-apart _ _ (c .before .before .before .pre .0)
+    (c .index2 .ensures .0 ∙ c .before .packed-digits .ensures .0 (omega arith) ∙ ap packed (c .before .before .index .ensures .0))
 
 spell-requires : tie.Need-spell-requires
 spell-requires c κs =

@@ -1,7 +1,7 @@
-// The table of amounts.
+// The decimal digits of amounts, by a table.
 ghost use mathlib.Core.Path.{_≡_};
-ghost use Prim.Native.Nat.{_≤_};
-ghost use Rattle.sheets.specs.Decimal.{packed};
+ghost use Prim.Native.Nat.{_<_, _≤_};
+ghost use Rattle.amounts.specs.Packed.{packed};
 
 // The digits of each amount, four bits for each: hundreds * 256 + tens * 16 + units, so in hexadecimal an entry reads as its amount.
 const DIGITS: [u16; 501] = [
@@ -508,10 +508,9 @@ const DIGITS: [u16; 501] = [
     0x500,
 ];
 
-// The rule of the table, over all its entries.
-pub(crate) fn packed_digits(amount: usize) -> u16
-    requires { ⌜ amount ≤ 500 ⌝ }
-    ensures { λ r. ⌜ r ≡ packed amount ⌝ }
+// The digits of an amount, which is at most 500; 0 for any other number.
+pub fn packed_digits(amount: usize) -> u16
+    ensures { λ r. ⌜ (amount ≤ 500 → r ≡ packed amount) × (500 < amount → r ≡ 0) ⌝ }
 {
-    DIGITS[amount]
+    if amount <= 500 { DIGITS[amount] } else { 0 }
 }
