@@ -1,5 +1,4 @@
 // How the answers of the operations are printed.
-use marker::Verdict;
 use market::Deal;
 use reader::Reply;
 use report::done_bytes;
@@ -9,6 +8,7 @@ use report::refused;
 use report::refused_bytes;
 use report::refused_numbers;
 use report::verdict;
+use verdicts::Verdict;
 
 // A reply, and what it left in the lent list or buffer.
 pub(crate) fn with_numbers(reply: Reply, lent: &[u16]) {
@@ -40,7 +40,7 @@ fn is_free(deal: Deal) -> bool {
 }
 
 pub(crate) fn judged(answer: Verdict) {
-    let values = marker::values_of(answer);
+    let values = verdicts::values_of(answer);
     let deal = values.deal;
     if values.verdict == 0 {
         refused(values.refusal);

@@ -10,10 +10,10 @@ use files::end_line;
 use files::say;
 use libc::STDERR_FILENO;
 use libc::STDOUT_FILENO;
-use marker::Verdict;
 use reader::Reply;
 use report::front_bytes;
 use texts::Listed;
+use verdicts::Verdict;
 
 fn refused(why: u8) {
     counted(STDOUT_FILENO, b"REFUSED ", why as u64);

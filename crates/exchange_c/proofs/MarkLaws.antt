@@ -3,8 +3,8 @@
 use mathlib.Core.List.{List}
 use Prim.Native.Nat.{ℕ}
 use native.Mathlib.Omega.{arith}
-use Rattle.marker.specs.declared.Values.{Values}
-use Rattle.marker.specs.Values.{Bounded}
+use Rattle.verdicts.specs.declared.Values.{Values}
+use Rattle.verdicts.specs.Values.{Bounded}
 use Rattle.marker.specs.Marked.{markedValues}
 use Rattle.marker.proofs.DealNumbers.{number-small}
 use Rattle.marker.proofs.ValueBounds.{marked-bounded}

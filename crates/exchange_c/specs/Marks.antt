@@ -2,7 +2,7 @@
 -- Assumes nothing.
 use Prim.Native.Nat.{ℕ, _+_, _*_, _/_, _%_, _^_}
 use mathlib.Core.Path.{_≡_}
-use Rattle.marker.specs.declared.Values.{Values}
+use Rattle.verdicts.specs.declared.Values.{Values}
 use Rattle.marker.specs.Verdict.{dealNumber}
 
 -- Six fields, the lowest first. A field that a verdict or a refusal has no use for is 0.

@@ -53,5 +53,5 @@ pub extern "C" fn exchange_sheet(ticket: &[u8], text: &mut [u8]) -> u32
 pub extern "C" fn exchange_mark(ticket: &[u8], settlement: &[u8]) -> u64
     ensures { λ r. ⌜ r ≡ markNumber (markedValues (now (ticket .entry)) (now (settlement .entry))) ⌝ }
 {
-    mark_number(marker::values_of(marker::mark(ticket, settlement)))
+    mark_number(verdicts::values_of(marker::mark(ticket, settlement)))
 }

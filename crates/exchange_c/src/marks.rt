@@ -1,11 +1,11 @@
 // The number of a verdict: its values side by side.
 ghost use mathlib.Core.Path.{_≡_};
 ghost use Prim.Native.Nat.{_<_};
-ghost use Rattle.marker.specs.Values.{Bounded};
+ghost use Rattle.verdicts.specs.Values.{Bounded};
 ghost use Rattle.marker.specs.Verdict.{dealNumber};
 ghost use Rattle.exchange_c.specs.Marks.{markNumber};
-use marker::Values;
 use market::Deal;
+use verdicts::Values;
 
 // What one unit of each field weighs.
 const GROWER: u64 = 0x100;

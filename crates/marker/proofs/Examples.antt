@@ -5,7 +5,7 @@ use Rattle.grid.specs.First.{first}
 use Rattle.grid.specs.Sum.{sum}
 use Rattle.reader.specs.Groups.{readFrom}
 use Rattle.reader.specs.Walk.{walk, form}
-use Rattle.marker.specs.Verdict.{cheapestOf}
+use Rattle.verdicts.specs.Tests.{cheapestOf}
 use Rattle.marker.specs.Examples.{Examples}
 
 pub examples : Examples

@@ -1,6 +1,5 @@
 pub mod Examples
 pub mod DealNumbers
-pub mod Spares
 pub mod PartyRows
 pub mod Walks
 pub mod CheapestSpares

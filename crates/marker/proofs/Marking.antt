@@ -13,11 +13,11 @@ use Rattle.reader.specs.declared.Reply.{Reply}
 use Rattle.reader.specs.Walk.{Outcome, Refusal, Numbers}
 use Rattle.reader.specs.Answer.{unpacked, settlementRead, reply, kept}
 use Rattle.reader.proofs.Facts.{unpacked-shape, settlement-shape, settlement-few, reply-done, reply-refused}
-use Rattle.marker.specs.declared.Verdict.{Verdict}
-use Rattle.marker.specs.declared.Verdict.the-variants.{Refused, Sound}
+use Rattle.verdicts.specs.declared.Verdict.{Verdict}
+use Rattle.verdicts.specs.declared.Verdict.the-variants.{Refused, Sound}
 use Rattle.tables.specs.View.{growersOf, pilotsOf, ticketOf, settlementOf}
+use Rattle.verdicts.specs.Values.{verdictNumber}
 use Rattle.marker.specs.Verdict.{judged}
-use Rattle.marker.specs.Values.{verdictNumber}
 use Rattle.marker.specs.Marked.{settlementMarked, ticketMarked, marked, SoundFiles}
 use Rattle.marker.proofs.Soundness.{NoStandby, sound-exactly, sound-number}
 

@@ -1,54 +1,20 @@
--- What the rows of a party say of its hours, its earnings and its spares.
+-- What the rows of a party say of its hours and its earnings.
 -- Assumes nothing.
 use Prim.Native.Nat.{ℕ, _-_, _<_, _≤_, min}
-use mathlib.Core.Path.{_≡_, refl, ap, _∙_}
-use mathlib.Core.Logic.{⊎-elim}
-use mathlib.Core.Bool.{cond}
+use mathlib.Core.Path.{_≡_, refl, ap}
 use mathlib.Core.List.{List, []}
 use native.Mathlib.Omega.{arith}
-use lib.Dec.{eqb}
-use lib.ListN.{getD, set, length, List·getD-eq-default}
-use lib.Seq.{getD-set-same, getD-set-other, set-out}
-use borrow.Author.Tests.{eq-eqb, ne-eqb}
+use lib.ListN.{getD}
 use Rattle.grid.specs.Grid.{Grid, at}
 use Rattle.grid.specs.Fill.{Filled}
-use Rattle.grid.proofs.Cases.{eq-or-ne, lt-or-le}
 use Rattle.grid.proofs.Sums.{sum-same}
 use Rattle.market.specs.declared.Deal.{Deal}
 use Rattle.market.specs.declared.Deal.the-variants.{Tariff, Free}
 use Rattle.market.specs.Market.{sumDeals, earnedByGrower, earnedByPilot}
 use Rattle.market.specs.Tables.{ticketIn, settlementIn}
+use Rattle.verdicts.specs.Tests.{lines}
 use Rattle.marker.specs.declared.Party.{Party}
-use Rattle.marker.specs.declared.Spare.{Spare}
-use Rattle.marker.specs.declared.Spare.the-variants.{Nothing}
-use Rattle.marker.specs.Verdict.{countIn, cheapestOf, besides}
-use Rattle.marker.specs.Tables.{lines, usedIn, partyOf, partyAt, IsParty, IsGrower, IsPilot, spareIn}
-use Rattle.marker.proofs.Spares.{cheapest-same}
-
--- a row whose number at y is made 0; beyond its end it has zeros anyway
-zero-at : (r : List ℕ) (y l : ℕ) → getD (set r y 0) l 0 ≡ cond (eqb l y) 0 (getD r l 0)
-zero-at r y l = ⊎-elim (λ e. rw (eq-eqb l y e, e) here) (λ n. rw (ne-eqb l y n) (getD-set-other r y l 0 0 n)) (eq-or-ne l y)
-  where
-    here : getD (set r y 0) y 0 ≡ 0
-    here = ⊎-elim (λ h. getD-set-same r y 0 0 h) (λ h. rw (set-out r y 0 h) (List·getD-eq-default r 0 h)) (lt-or-le y (length r))
-
--- the cheapest of a free hour and of rows without the deal's own hours
-module _ (p : Party) (k y : ℕ) (s r : Spare) (es : s ≡ countIn (p .unused) 0 Nothing) (rest : List ℕ) where
-  beside-tariff : (e : Deal) (l : ℕ) → lines (set (p .tariff) y 0) (p .free) e l ≡ besides Tariff y (lines (p .tariff) (p .free)) e l
-  beside-tariff Tariff l = zero-at (p .tariff) y l
-  beside-tariff Free l = refl
-
-  beside-free : (e : Deal) (l : ℕ) → lines (p .tariff) (set (p .free) y 0) e l ≡ besides Free y (lines (p .tariff) (p .free)) e l
-  beside-free Tariff l = refl
-  beside-free Free l = zero-at (p .free) y l
-
-  pub spare-tariff : rest ≡ set (p .tariff) y 0 → r ≡ cheapestOf s (lines rest (p .free)) (lines (p .earned) (p .share)) k →
-      r ≡ spareIn p k Tariff y
-  spare-tariff e er = er ∙ rw (es, e) (cheapest-same _ _ _ _ _ k (λ e l _. beside-tariff e l) (λ e l _. refl))
-
-  pub spare-free : rest ≡ set (p .free) y 0 → r ≡ cheapestOf s (lines (p .tariff) rest) (lines (p .earned) (p .share)) k →
-      r ≡ spareIn p k Free y
-  spare-free e er = er ∙ rw (es, e) (cheapest-same _ _ _ _ _ k (λ e l _. beside-free e l) (λ e l _. refl))
+use Rattle.marker.specs.Tables.{usedIn, partyOf, partyAt, IsParty, IsGrower, IsPilot}
 
 -- a party of rows that hold such hours and earnings
 party-is : (p : Party) (k own : ℕ) (had worth : Deal → ℕ → ℕ) (tariff free earned share : List ℕ) →

@@ -20,12 +20,12 @@ use Rattle.market.specs.Same.{SameTicket, SameSettlement}
 use Rattle.market.proofs.Same.{same-grower, same-pilot, same-cap, same-earned-grower, same-earned-pilot}
 use Rattle.tables.specs.View.{growersOf, pilotsOf, ticketOf, settlementOf, HoldTicket, HoldSettlement}
 use Rattle.tables.proofs.Meaning.{ticket-same, settlement-same}
-use Rattle.marker.specs.declared.Verdict.{Verdict}
-use Rattle.marker.specs.declared.Verdict.the-variants.{Sound, GrowerOverHours, PilotOverHours, Idle, Blocks}
+use Rattle.verdicts.specs.declared.Verdict.{Verdict}
+use Rattle.verdicts.specs.declared.Verdict.the-variants.{Sound, GrowerOverHours, PilotOverHours, Idle, Blocks}
+use Rattle.verdicts.proofs.Spares.{spare-same}
 use Rattle.marker.specs.Verdict.{byPair, walk, pairs, wrongPair, pairVerdict, freeOfGrower, freeOfPilot}
 use Rattle.marker.specs.Verdict.{growerSpare, pilotSpare, idle, blocks, wrongDeal, dealAt, dealVerdict}
 use Rattle.marker.specs.Verdict.{dealsJudged, hoursJudged, judged}
-use Rattle.marker.proofs.Spares.{spare-same}
 use Rattle.marker.proofs.Walks.{first-same}
 
 -- walks over as many places, with the same tests and the same verdicts

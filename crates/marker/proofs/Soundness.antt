@@ -14,17 +14,18 @@ use Rattle.market.specs.declared.Deal.the-variants.{Tariff, Free}
 use Rattle.market.specs.Market as market
 use Rattle.market.specs.Market.{Ticket, Settlement, Cheapest, Feasible, SpareOfGrower, SpareOfPilot}
 use Rattle.market.proofs.Gains.{always-welcome}
-use Rattle.marker.specs.declared.Verdict.{Verdict}
-use Rattle.marker.specs.declared.Verdict.the-variants.{Sound, TariffOverCap, FreeOverCap, WrongPay, GrowerOverHours, PilotOverHours}
-use Rattle.marker.specs.declared.Verdict.the-variants.{Idle, Blocks}
-use Rattle.marker.specs.Verdict.{below, bothBelow, payTest, wrongPair, wrongPay, freeOfGrower, freeOfPilot, growerOver, pilotOver}
+use Rattle.verdicts.specs.declared.Verdict.{Verdict}
+use Rattle.verdicts.specs.declared.Verdict.the-variants.{Sound, TariffOverCap, FreeOverCap, WrongPay, GrowerOverHours, PilotOverHours}
+use Rattle.verdicts.specs.declared.Verdict.the-variants.{Idle, Blocks}
+use Rattle.verdicts.specs.Tests.{below, bothBelow, payTest}
+use Rattle.verdicts.specs.Values.{verdictNumber}
+use Rattle.verdicts.proofs.CheapestSpares.{below-true, below-made, both-below-true, both-below-made}
+use Rattle.marker.specs.Verdict.{wrongPair, wrongPay, freeOfGrower, freeOfPilot, growerOver, pilotOver}
 use Rattle.marker.specs.Verdict.{idle, blocks, wrongDeal, growerSpare, pilotSpare}
 use Rattle.marker.specs.Verdict.{byPair, dealAt, walk, pairVerdict, dealVerdictAt, pairs, pairFaultAt, dealFaultAt, dealsJudged}
 use Rattle.marker.specs.Verdict.{hoursJudged, judged, overCap}
-use Rattle.marker.specs.Values.{verdictNumber}
 use Rattle.marker.proofs.Walks.{walk-passes, walk-passed, none-pairs, none-deals}
-use Rattle.marker.proofs.CheapestSpares.{cheapest-of-grower, cheapest-of-pilot, below-true, below-made, both-below-true}
-use Rattle.marker.proofs.CheapestSpares.{both-below-made}
+use Rattle.marker.proofs.CheapestSpares.{cheapest-of-grower, cheapest-of-pilot}
 
 -- tests joined
 both-true : (a b : Bool) → (a && b) ≡ true → (a ≡ true) × (b ≡ true)

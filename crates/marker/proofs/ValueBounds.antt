@@ -16,12 +16,12 @@ use Rattle.market.specs.Market.{Ticket, Settlement}
 use Rattle.reader.specs.Walk.{Outcome, Refusal, Numbers}
 use Rattle.reader.specs.Answer.{unpacked, settlementRead}
 use Rattle.tables.specs.View.{growersOf, pilotsOf, ticketOf, settlementOf}
-use Rattle.marker.specs.declared.Verdict.{Verdict}
-use Rattle.marker.specs.declared.Verdict.the-variants.{Refused, Sound, TariffOverCap, FreeOverCap, WrongPay}
-use Rattle.marker.specs.declared.Verdict.the-variants.{GrowerOverHours, PilotOverHours, Idle, Blocks}
+use Rattle.verdicts.specs.declared.Verdict.{Verdict}
+use Rattle.verdicts.specs.declared.Verdict.the-variants.{Refused, Sound, TariffOverCap, FreeOverCap, WrongPay}
+use Rattle.verdicts.specs.declared.Verdict.the-variants.{GrowerOverHours, PilotOverHours, Idle, Blocks}
+use Rattle.verdicts.specs.Values.{valuesOf, Bounded}
 use Rattle.marker.specs.Verdict.{walk, byPair, pairs, dealAt, overCap, idle, growerOver, pilotOver, pairVerdict, pairFaultAt}
 use Rattle.marker.specs.Verdict.{dealVerdict, dealFaultAt, dealVerdictAt, dealsJudged, hoursJudged, judged}
-use Rattle.marker.specs.Values.{valuesOf, Bounded}
 use Rattle.marker.specs.Marked.{settlementMarked, ticketMarked, markedValues}
 use Rattle.marker.proofs.Marking.{few-parties}
 

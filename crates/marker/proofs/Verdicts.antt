@@ -13,14 +13,17 @@ use Rattle.grid.proofs.FirstPlaces.{none-more, first-is}
 use Rattle.grid.proofs.Places.{cell-place, deal-place, row-within}
 use Rattle.market.specs.declared.Deal.{Deal}
 use Rattle.market.specs.Market.{Ticket, Settlement}
+use Rattle.verdicts.specs.declared.Found.{Found}
+use Rattle.verdicts.specs.declared.Found.the-variants.{Nothing, Fault}
+use Rattle.verdicts.specs.declared.Verdict.{Verdict}
+use Rattle.verdicts.specs.declared.Verdict.the-variants.{Sound, GrowerOverHours, PilotOverHours}
+use Rattle.verdicts.specs.declared.Spare.{Spare}
+use Rattle.verdicts.specs.Tests.{lines}
+use Rattle.verdicts.specs.Faults.{foundIf, dealFault}
 use Rattle.marker.specs.declared.Party.{Party}
-use Rattle.marker.specs.declared.Found.{Found}
-use Rattle.marker.specs.declared.Found.the-variants.{Nothing, Fault}
-use Rattle.marker.specs.declared.Verdict.{Verdict}
-use Rattle.marker.specs.declared.Verdict.the-variants.{Sound, GrowerOverHours, PilotOverHours, Idle, Blocks}
 use Rattle.marker.specs.Verdict.{byPair, walk, pairs, wrongPair, pairVerdict, pairFaultAt, growerOver, pilotOver, wrongDeal}
-use Rattle.marker.specs.Verdict.{idleTest, blocksTest, dealNumber, dealVerdict, dealFaultAt, dealVerdictAt, dealsJudged, hoursJudged}
-use Rattle.marker.specs.Tables.{foundIf, firstFound, lines, spareIn, idleIn, blocksIn, dealFound}
+use Rattle.marker.specs.Verdict.{dealNumber, dealVerdict, dealFaultAt, dealVerdictAt, dealsJudged, hoursJudged}
+use Rattle.marker.specs.Tables.{firstFound, spareIn, dealFound}
 use Rattle.marker.proofs.DealNumbers.{deal-of-number, number-small}
 use Rattle.marker.proofs.Walks.{walk-found, walk-on}
 
@@ -33,26 +36,17 @@ pub found-fails : (b : Bool) (v : Verdict) (r : Found) → r ≡ foundIf b v →
 found-fails true v r e f = never cc
 found-fails false v r e f = refl
 
--- what is found of a deal by the tests of its parties, on its hours and its cap
-module _ (d : Deal) (g p : Party) (n m i j cap joint hours bound : ℕ) (eh : hours ≡ lines (g .tariff) (g .free) d j) (ec : bound ≡ cap)
-    (a : Bool) (ea : a ≡ idleTest hours bound (g .unused) (p .unused)) where
-  is-idle : (v : Bool) → a ≡ v → idleIn d g p j cap ≡ v
-  is-idle v e = (rw (eh, ec) at (sym ea)) ∙ e
+-- what is found of a deal by the numbers of its parties, on its hours and its cap
+module _ (d : Deal) (g p : Party) (n m i j cap joint hours bound : ℕ) (eh : hours ≡ lines (g .tariff) (g .free) d j) (ec : bound ≡ cap) where
+  -- at its cap nothing, whatever the spares
+  pub at-cap : bound ≤ hours → Nothing ≡ dealFound d g p n m i j cap joint
+  at-cap h = rw (← eh, ← ec, le-ltb hours bound h)
 
-  pub idle-found : a ≡ true → (count : ℕ) → count ≡ 2 * (i * m + j) + dealNumber d + 1 → Fault (Idle i j d count) ≡ dealFound d g p n m i j cap joint
-  idle-found e count f = rw (is-idle true e, f)
-
-  module _ (no : a ≡ false) (b : Bool) (eb : b ≡ blocksTest d hours bound (spareIn g m d j) (spareIn p n d i) (getD (g .earned) j 0)
-      (getD (p .earned) i 0) joint) where
-    does-block : (v : Bool) → b ≡ v → blocksIn d g p n m i j cap joint ≡ v
-    does-block v e = (rw (eh, ec) at (sym eb)) ∙ e
-
-    pub blocks-found : b ≡ true → (count : ℕ) → count ≡ 2 * (i * m + j) + dealNumber d + 1 →
-        Fault (Blocks i j d count) ≡ dealFound d g p n m i j cap joint
-    blocks-found e count f = rw (is-idle false no, does-block true e, f)
-
-    pub nothing-found : b ≡ false → Nothing ≡ dealFound d g p n m i j cap joint
-    nothing-found e = rw (is-idle false no, does-block false e)
+  pub below-cap : (count : ℕ) → count ≡ 2 * (i * m + j) + dealNumber d + 1 → (ofGrower ofPilot : Spare) → ofGrower ≡ spareIn g m d j →
+      ofPilot ≡ spareIn p n d i → (r : Found) →
+      r ≡ dealFault i j d count hours bound (g .unused) (p .unused) ofGrower ofPilot (getD (g .earned) j 0) (getD (p .earned) i 0) joint →
+      r ≡ dealFound d g p n m i j cap joint
+  below-cap count e ofGrower ofPilot eg ep r f = rw (e, eh, ec, eg, ep) at f
 
 module _ (test : ℕ → Bool) (k : ℕ) (verdict : ℕ → Verdict) where
   -- a walk that stops at place p, and one that goes on to its end

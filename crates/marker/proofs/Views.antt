@@ -11,10 +11,11 @@ use Rattle.market.specs.declared.Deal.{Deal}
 use Rattle.market.specs.declared.Deal.the-variants.{Tariff, Free}
 use Rattle.market.specs.Market.{cap}
 use Rattle.market.specs.Tables.{byDeal}
+use Rattle.verdicts.specs.Faults.{foundIf}
+use Rattle.verdicts.proofs.Spares.{spare-same}
 use Rattle.marker.specs.declared.Party.{Party}
-use Rattle.marker.specs.Verdict.{growerOver, pilotOver, growerSpare, pilotSpare, idle, blocks, wrongDeal, dealNumber, dealVerdict}
-use Rattle.marker.specs.Tables.{foundIf, nobody, isOver, spareIn, idleIn, blocksIn, dealFound, Origin, ticketFrom, settlementFrom}
-use Rattle.marker.proofs.Spares.{spare-same}
+use Rattle.marker.specs.Verdict.{growerOver, pilotOver, growerSpare, pilotSpare, wrongDeal, dealNumber, dealVerdict}
+use Rattle.marker.specs.Tables.{nobody, isOver, spareIn, dealFound, Origin, ticketFrom, settlementFrom}
 use Rattle.marker.proofs.Walks.{first-same}
 
 module _ {n m : ℕ} {growers pilots : List Party} {tariffCap freeCap jointGain : Grid} (o : Origin n m growers pilots tariffCap freeCap jointGain) where
@@ -36,23 +37,17 @@ module _ {n m : ℕ} {growers pilots : List Party} {tariffCap freeCap jointGain 
     pilot-spare : (d : Deal) → spareIn (getD pilots j nobody) n d i ≡ pilotSpare (ticketFrom o) (settlementFrom o) d i j
     pilot-spare d = let p = o .pilot j hj in spare-same _ _ 0 0 n n _ _ _ _ d i (p .unused) refl refl (p .hours) (p .earned)
 
-    module _ (d : Deal) where
-      idle-is : idleIn d (getD growers i nobody) (getD pilots j nobody) j (byDeal (at tariffCap i j) (at freeCap i j) d)
-          ≡ idle (ticketFrom o) (settlementFrom o) d i j
-      idle-is = rw (o .grower i hi .hours d j hj, cap-is d, o .grower i hi .unused, o .pilot j hj .unused)
-
-      blocks-is : blocksIn d (getD growers i nobody) (getD pilots j nobody) n m i j (byDeal (at tariffCap i j) (at freeCap i j) d) (at jointGain i j)
-          ≡ blocks (ticketFrom o) (settlementFrom o) d i j
-      blocks-is = rw (
-        o .grower i hi .hours d j hj,
-        cap-is d,
-        grower-spare d,
-        pilot-spare d,
-        o .grower i hi .earned Tariff j hj,
-        o .pilot j hj .earned Tariff i hi,
-      )
-
-      -- what is found of a deal by its parties and its pair's cells
-      pub deal-found-is : dealFound d (getD growers i nobody) (getD pilots j nobody) n m i j (byDeal (at tariffCap i j) (at freeCap i j) d) (at jointGain i j)
-          ≡ foundIf (wrongDeal (ticketFrom o) (settlementFrom o) d i j) (dealVerdict (ticketFrom o) (settlementFrom o) (2 * (i * m + j) + dealNumber d + 1) i j d)
-      deal-found-is = rw (idle-is, blocks-is)
+    -- what is found of a deal by its parties and its pair's cells
+    pub deal-found-is : (d : Deal) →
+        dealFound d (getD growers i nobody) (getD pilots j nobody) n m i j (byDeal (at tariffCap i j) (at freeCap i j) d) (at jointGain i j)
+        ≡ foundIf (wrongDeal (ticketFrom o) (settlementFrom o) d i j) (dealVerdict (ticketFrom o) (settlementFrom o) (2 * (i * m + j) + dealNumber d + 1) i j d)
+    deal-found-is d = rw (
+      grower-spare d,
+      pilot-spare d,
+      o .grower i hi .hours d j hj,
+      cap-is d,
+      o .grower i hi .unused,
+      o .pilot j hj .unused,
+      o .grower i hi .earned Tariff j hj,
+      o .pilot j hj .earned Tariff i hi,
+    )

@@ -12,9 +12,9 @@ use Rattle.grid.proofs.FirstPlaces.{first-is, first-first}
 use Rattle.grid.proofs.Places.{inside, within, cell-place, at-place, row-within}
 use Rattle.market.specs.declared.Deal.{Deal}
 use Rattle.market.specs.declared.Deal.the-variants.{Tariff, Free}
-use Rattle.marker.specs.declared.Verdict.{Verdict}
+use Rattle.verdicts.specs.declared.Verdict.{Verdict}
+use Rattle.verdicts.specs.Values.{verdictNumber}
 use Rattle.marker.specs.Verdict.{byPair, dealAt, walk}
-use Rattle.marker.specs.Values.{verdictNumber}
 
 -- tests that agree have the same first place
 pub first-same : (f g : ℕ → Bool) (k : ℕ) → ((p : ℕ) → p < k → f p ≡ g p) → first f k ≡ first g k

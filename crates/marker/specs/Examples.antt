@@ -4,7 +4,7 @@ use Prim.Native.Nat.{ℕ}
 use mathlib.Core.Path.{_≡_}
 use mathlib.Core.List.{List, [], _∷_}
 use Rattle.market.specs.declared.Deal.the-variants.{Tariff, Free}
-use Rattle.marker.specs.Values.{verdictValues}
+use Rattle.verdicts.specs.Values.{verdictValues}
 use Rattle.marker.specs.Marked.{markedValues}
 
 abbrev pub ticketA : List ℕ

@@ -6,12 +6,12 @@ use Prim.Native.Nat.{ℕ}
 use Rattle.reader.specs.Walk.{Outcome, Refusal, Numbers}
 use Rattle.reader.specs.Answer.{unpacked, settlementRead}
 use Rattle.market.specs.Market as market
-use Rattle.marker.specs.declared.Values.{Values}
-use Rattle.marker.specs.declared.Verdict.{Verdict}
-use Rattle.marker.specs.declared.Verdict.the-variants.{Refused}
+use Rattle.verdicts.specs.declared.Values.{Values}
+use Rattle.verdicts.specs.declared.Verdict.{Verdict}
+use Rattle.verdicts.specs.declared.Verdict.the-variants.{Refused}
 use Rattle.tables.specs.View.{growersOf, pilotsOf, ticketOf, settlementOf}
+use Rattle.verdicts.specs.Values.{valuesOf}
 use Rattle.marker.specs.Verdict.{judged}
-use Rattle.marker.specs.Values.{valuesOf}
 
 -- the ticket's numbers are xs
 abbrev pub settlementMarked : List ℕ → Outcome → Verdict

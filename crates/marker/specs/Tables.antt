@@ -2,7 +2,7 @@
 -- Assumes nothing.
 use Prim.Native.Nat.{ℕ, _+_, _*_, _-_, _<_}
 use mathlib.Core.Path.{_≡_}
-use mathlib.Core.Bool.{Bool, true, false, cond, _||_}
+use mathlib.Core.Bool.{Bool}
 use mathlib.Core.List.{List, []}
 use lib.Dec.{ltb}
 use lib.ListN.{getD}
@@ -10,31 +10,22 @@ use Rattle.grid.specs.Grid.{Grid}
 use Rattle.grid.specs.First.{first}
 use Rattle.market.specs.declared.Deal.{Deal}
 use Rattle.market.specs.Market.{Ticket, Settlement, sumDeals, earnedByGrower, earnedByPilot}
-use Rattle.market.specs.Tables.{byDeal, ticketIn, settlementIn}
-use Rattle.marker.specs.declared.Found.{Found}
-use Rattle.marker.specs.declared.Found.the-variants.{Nothing, Fault}
+use Rattle.market.specs.Tables.{ticketIn, settlementIn}
+use Rattle.verdicts.specs.declared.Found.{Found}
+use Rattle.verdicts.specs.declared.Spare.{Spare}
+use Rattle.verdicts.specs.declared.Verdict.{Verdict}
+use Rattle.verdicts.specs.Tests.{cheapestSpare, lines}
+use Rattle.verdicts.specs.Faults.{foundIf, dealFault}
 use Rattle.marker.specs.declared.Party.{Party}
-use Rattle.marker.specs.declared.Spare.{Spare}
-use Rattle.marker.specs.declared.Verdict.{Verdict}
-use Rattle.marker.specs.declared.Verdict.the-variants.{Idle, Blocks}
-use Rattle.marker.specs.Verdict.{cheapestSpare, idleTest, blocksTest, dealNumber}
+use Rattle.marker.specs.Verdict.{dealNumber}
 
 -- Walks.
-
--- the verdict on a fault, if there is one
-abbrev pub foundIf : Bool → Verdict → Found
-foundIf true v = Fault v
-foundIf false v = Nothing
 
 -- the verdict on the first of k places at which a test holds
 abbrev pub firstFound : (ℕ → Bool) → ℕ → (ℕ → Verdict) → Found
 firstFound test k verdict = foundIf (ltb (first test k) k) (verdict (first test k))
 
 -- Parties. A row has a number for each partner.
-
--- two rows, one of tariff deals and one of free deals, by deal and partner
-abbrev pub lines : List ℕ → List ℕ → Deal → ℕ → ℕ
-lines tariff free = byDeal (λ l. getD tariff l 0) (λ l. getD free l 0)
 
 -- the hours over all deals with k partners
 abbrev pub usedIn : List ℕ → List ℕ → ℕ → ℕ
@@ -84,19 +75,11 @@ IsPilot t x j p = IsParty p (t .growers) (t .pilotHours j) (λ e k. x .hours e k
 abbrev pub spareIn : Party → ℕ → Deal → ℕ → Spare
 spareIn p k d y = cheapestSpare (p .unused) 0 (lines (p .tariff) (p .free)) (lines (p .earned) (p .share)) k d y
 
--- a deal below its cap is idle, or blocks: the parties are grower i, one of n, and pilot j, one of m
-abbrev pub idleIn : Deal → Party → Party → ℕ → ℕ → Bool
-idleIn d g p j cap = idleTest (lines (g .tariff) (g .free) d j) cap (g .unused) (p .unused)
-
-abbrev pub blocksIn : Deal → Party → Party → ℕ → ℕ → ℕ → ℕ → ℕ → ℕ → Bool
-blocksIn d g p n m i j cap joint =
-    blocksTest d (lines (g .tariff) (g .free) d j) cap (spareIn g m d j) (spareIn p n d i) (getD (g .earned) j 0) (getD (p .earned) i 0) joint
-
--- the verdict on the deal, if it is idle or blocks
+-- what is found of the deal, whose parties are grower i, one of n, and pilot j, one of m
 abbrev pub dealFound : Deal → Party → Party → ℕ → ℕ → ℕ → ℕ → ℕ → ℕ → Found
 dealFound d g p n m i j cap joint =
-    foundIf (idleIn d g p j cap || blocksIn d g p n m i j cap joint)
-    (cond (idleIn d g p j cap) (Idle i j d (2 * (i * m + j) + dealNumber d + 1)) (Blocks i j d (2 * (i * m + j) + dealNumber d + 1)))
+    dealFault i j d (2 * (i * m + j) + dealNumber d + 1) (lines (g .tariff) (g .free) d j) cap (g .unused) (p .unused)
+    (spareIn g m d j) (spareIn p n d i) (getD (g .earned) j 0) (getD (p .earned) i 0) joint
 
 -- The rows and squares that n growers and m pilots were made of, beside those that a walk over deals has itself.
 pub record Origin (n m : ℕ) (growers pilots : List Party) (tariffCap freeCap jointGain : Grid) : Type 0 where

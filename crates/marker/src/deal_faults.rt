@@ -1,18 +1,16 @@
-// Deals: verdicts 7 and 8.
+// The walk over deals: verdicts 7 and 8.
 ghost use mathlib.Core.Path.{_≡_};
 ghost use Prim.Native.Nat.{_+_, _*_, _<_, _≤_};
-ghost use lib.ListN.{getD};
 ghost use Rattle.market.specs.Tables.{byDeal};
-ghost use Rattle.marker.specs.Verdict.{idleTest, outweighs, blocksTest, dealNumber, dealsJudged};
-ghost use Rattle.marker.specs.Tables.{lines, spareIn, dealFound, Origin, ticketFrom, settlementFrom};
-use crate::Found;
+ghost use Rattle.verdicts.specs.Tests.{lines};
+ghost use Rattle.marker.specs.Verdict.{dealNumber, dealsJudged};
+ghost use Rattle.marker.specs.Tables.{spareIn, dealFound, Origin, ticketFrom, settlementFrom};
 use crate::Party;
-use crate::Spare;
-use crate::Verdict;
-use crate::cheap_spares::below;
-use crate::cheap_spares::both_below;
-use crate::cheap_spares::cheapest_spare;
 use market::Deal;
+use verdicts::Found;
+use verdicts::Spare;
+use verdicts::Verdict;
+use verdicts::cheapest_spare;
 
 // One of two numbers, by the deal.
 fn of_deal(deal: Deal, tariff: u16, free: u16) -> u16
@@ -35,52 +33,16 @@ fn hours_with(party: Party, deal: Deal, y: usize) -> u16
     }
 }
 
-fn idle(hours: u16, cap: u16, of_grower: u16, of_pilot: u16) -> bool
-    ensures { λ r. ⌜ r ≡ idleTest hours cap «of_grower» «of_pilot» ⌝ }
+// A party's cheapest spare for a deal with partner y, one of so many.
+fn spare(party: Party, partners: usize, deal: Deal, y: usize) -> Spare
+    requires { ⌜ partners ≤ 16 ⌝ }
+    ensures { λ r. ⌜ r ≡ spareIn party partners deal y ⌝ }
 {
-    hours < cap && (0 < of_grower && 0 < of_pilot)
-}
-
-// An hour more of a deal outweighs two spares.
-fn outweighs(deal: Deal, of_grower: Spare, of_pilot: Spare, gain: u16, pay: u16, joint: u16) -> bool
-    ensures { λ r. ⌜ r ≡ outweighs deal «of_grower» «of_pilot» gain pay joint ⌝ }
-{
-    match deal {
-        Deal::Tariff => below(of_grower, gain) && below(of_pilot, pay),
-        Deal::Free => both_below(of_grower, of_pilot, joint),
-    }
-}
-
-// The deal of grower i, one of n, and pilot j, one of m, blocks.
-fn blocks(
-    deal: Deal,
-    hours: u16,
-    cap: u16,
-    grower: Party,
-    pilot: Party,
-    n: usize,
-    m: usize,
-    i: usize,
-    j: usize,
-    joint: u16,
-) -> bool
-    requires { ⌜ (n ≤ 16) × (m ≤ 16) × (i < 16) × (j < 16) ⌝ }
-    ensures { λ r. ⌜ r ≡ blocksTest deal hours cap (spareIn grower m deal j) (spareIn pilot n deal i)
-        (getD (grower .earned) j 0) (getD (pilot .earned) i 0) joint ⌝ }
-{
-    if cap <= hours {
-        return false;
-    }
-    let of_grower = cheapest_spare(grower, m, deal, j);
-    let of_pilot = cheapest_spare(pilot, n, deal, i);
-    outweighs(
-        deal,
-        of_grower,
-        of_pilot,
-        grower.earned[j],
-        pilot.earned[i],
-        joint,
-    )
+    let tariff = party.tariff;
+    let free = party.free;
+    let earned = party.earned;
+    let share = party.share;
+    cheapest_spare(party.unused, tariff, free, earned, share, partners, deal, y)
 }
 
 // How many deals have been looked at, this one included. The product is proved to fit here, once.
@@ -113,25 +75,25 @@ fn deal_fault(
 {
     let hours = hours_with(grower, deal, j);
     let cap = of_deal(deal, tariff_cap, free_cap);
-    if idle(hours, cap, grower.unused, pilot.unused) {
-        let verdict = Verdict::Idle {
-            grower: i,
-            pilot: j,
-            deal,
-            count: looked_at(m, i, j, deal),
-        };
-        return Found::Fault { verdict };
+    // at its cap it has no fault, so that no spares are worked out for it
+    if cap <= hours {
+        return Found::Nothing;
     }
-    if blocks(deal, hours, cap, grower, pilot, n, m, i, j, joint) {
-        let verdict = Verdict::Blocks {
-            grower: i,
-            pilot: j,
-            deal,
-            count: looked_at(m, i, j, deal),
-        };
-        return Found::Fault { verdict };
-    }
-    Found::Nothing
+    verdicts::deal_fault(
+        i,
+        j,
+        deal,
+        looked_at(m, i, j, deal),
+        hours,
+        cap,
+        grower.unused,
+        pilot.unused,
+        spare(grower, m, deal, j),
+        spare(pilot, n, deal, i),
+        grower.earned[j],
+        pilot.earned[i],
+        joint,
+    )
 }
 
 // The last walk: the first deal that is idle or blocks, growers, pilots and deals in their order; or else sound.

@@ -5,9 +5,7 @@ ghost use Rattle.market.specs.Tables.{ticketIn, settlementIn};
 ghost use Rattle.tables.specs.View.{growersOf, pilotsOf, ticketOf, settlementOf};
 ghost use Rattle.marker.specs.Verdict.{hoursJudged, judged};
 ghost use Rattle.marker.specs.Tables.{Origin, ticketFrom, settlementFrom};
-use crate::Found;
 use crate::Party;
-use crate::Verdict;
 use crate::deal_faults::judge_deals;
 use crate::pair_faults::first_pair_fault;
 use crate::parties::all_growers;
@@ -15,6 +13,8 @@ use crate::parties::all_pilots;
 use crate::parties::first_over;
 use tables::Quantity;
 use tables::square;
+use verdicts::Found;
+use verdicts::Verdict;
 
 // Growers over their hours, then pilots: verdicts 5 and 6; then deals.
 fn judge_parties(

@@ -1,11 +1,11 @@
 // The marker's answer beside that of the plain search, field by field, and the count of what came of it.
-use marker::Verdict;
 use market::Deal;
 use plain::Answer;
 use plain::count;
 use plain::found;
 use plain::verdict;
 use report::front_bytes;
+use verdicts::Verdict;
 
 // A tally's places: 0 for answers that differ, 1 to 8 for the verdicts that were compared, 9 for tickets, 10 for settlements
 // within the limits, 11 for those compared.
@@ -30,7 +30,7 @@ fn number_of(deal: Deal) -> usize {
 
 // The marker's verdict by its values on paper. A refusal has the verdict 0, which the plain search never answers.
 fn answer(verdict: Verdict) -> Answer {
-    let values = marker::values_of(verdict);
+    let values = verdicts::values_of(verdict);
     let deal = values.deal;
     found(
         values.verdict,

@@ -12,7 +12,7 @@ use Rattle.reader.specs.Values.{Refuses, Counts}
 use Rattle.reader.specs.Answer.{unpacked, settlementRead}
 use Rattle.market.specs.Market.{Sound, NobodyGains}
 use Rattle.tables.specs.View.{growersOf, pilotsOf, ticketOf, settlementOf}
-use Rattle.marker.specs.declared.Verdict.{Verdict}
+use Rattle.verdicts.specs.declared.Verdict.{Verdict}
 use Rattle.marker.specs.Marked.{marked}
 
 -- The numbers of a settlement of the ticket xs that nobody can better.

@@ -4,9 +4,9 @@ use super::tally::PLAIN_ALONE;
 use super::tally::REFUSED;
 use super::tally::SOUND;
 use super::tally::UNSOUND;
-use marker::Verdict;
 use reader::Reply;
 use report::front_bytes;
+use verdicts::Verdict;
 
 // Room for 3 + 4nm bytes with two growers and two pilots.
 pub(crate) fn no_bytes() -> [u8; 19] {

@@ -4,7 +4,7 @@ use mathlib.Core.Path.{_≡_, refl}
 use mathlib.Core.List.{[], _∷_}
 use Rattle.grid.specs.First.{first}
 use Rattle.grid.specs.Sum.{sum}
-use Rattle.marker.specs.Verdict.{cheapestOf}
+use Rattle.verdicts.specs.Tests.{cheapestOf}
 use Rattle.sheets.specs.Decimal.{decimal}
 use Rattle.sheets.specs.Sheet.{pairLines, sheetText, refusedText}
 

@@ -16,10 +16,10 @@ use Rattle.reader.specs.Values.{Counts}
 use Rattle.reader.specs.Answer.{unpacked, settlementRead, reply}
 use Rattle.reader.proofs.Telling.{refuses, counts}
 use Rattle.reader.proofs.Facts.{unpacked-shape, settlement-shape, settlement-few, reply-with-room, reply-refused, written-front}
-use Rattle.marker.specs.declared.Verdict.{Verdict}
+use Rattle.verdicts.specs.declared.Verdict.{Verdict}
 use Rattle.tables.specs.View.{growersOf, pilotsOf, ticketOf, settlementOf}
 use Rattle.marker.specs.Verdict.{judged}
-use Rattle.marker.specs.Values.{verdictCount}
+use Rattle.verdicts.specs.Values.{verdictCount}
 use Rattle.marker.specs.Marked.{marked}
 use Rattle.settler.specs.Settled.{SettledIn, Settled}
 use Rattle.sheets.specs.Writing.{pageBytes, Wrote}

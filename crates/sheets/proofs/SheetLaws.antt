@@ -15,11 +15,11 @@ use Rattle.reader.proofs.Facts.{unpacked-shape, unpacked-deal, settlement-shape
 use Rattle.tables.specs.declared.Quantity.{Quantity}
 use Rattle.tables.specs.declared.Quantity.the-variants.{TariffCap, TariffGain, TariffPay, JointGain}
 use Rattle.tables.specs.declared.Quantity.the-variants.{TariffHours, FreeHours, Pay}
-use Rattle.marker.specs.declared.Verdict.{Verdict}
+use Rattle.verdicts.specs.declared.Verdict.{Verdict}
 use Rattle.tables.specs.View.{growersOf, pilotsOf, quantityOf, ticketOf, settlementOf, Holds}
 use Rattle.tables.proofs.Meaning.{held}
 use Rattle.marker.specs.Verdict.{judged}
-use Rattle.marker.specs.Values.{verdictCount}
+use Rattle.verdicts.specs.Values.{verdictCount}
 use Rattle.marker.specs.Marked.{marked}
 use Rattle.marker.proofs.Marking.{sound-files-marked}
 use Rattle.sheets.specs.Writing.{pageBytes, Wrote}

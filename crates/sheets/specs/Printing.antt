@@ -7,7 +7,7 @@ use Rattle.reader.specs.Walk.{Outcome, Numbers}
 use Rattle.reader.specs.Answer.{unpacked, settlementRead}
 use Rattle.tables.specs.View.{growersOf, pilotsOf, ticketOf, settlementOf}
 use Rattle.marker.specs.Verdict.{judged}
-use Rattle.marker.specs.Values.{verdictCount}
+use Rattle.verdicts.specs.Values.{verdictCount}
 use Rattle.settler.specs.Settled.{SoundNumbers}
 use Rattle.sheets.specs.Writing.{Wrote}
 use Rattle.sheets.specs.Sheeted.{IsSheet}

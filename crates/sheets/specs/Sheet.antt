@@ -8,7 +8,7 @@ use Rattle.market.specs.declared.Deal.the-variants.{Tariff, Free}
 use Rattle.market.specs.Market.{Ticket, Settlement}
 use Rattle.tables.specs.View.{growersOf, pilotsOf, ticketOf, settlementOf}
 use Rattle.marker.specs.Verdict.{judged}
-use Rattle.marker.specs.Values.{verdictCount}
+use Rattle.verdicts.specs.Values.{verdictCount}
 use Rattle.sheets.specs.Lines.{line}
 
 -- `SHEET `, `SOUND ` and `REFUSED `

@@ -2,7 +2,7 @@
 ghost use mathlib.Core.Path.{_≡_};
 ghost use mathlib.Core.List.{_∷_, [], _++_};
 ghost use Prim.Native.Nat.{ℕ, _≤_};
-ghost use Rattle.marker.specs.declared.Verdict.{Verdict};
+ghost use Rattle.verdicts.specs.declared.Verdict.{Verdict};
 ghost use Rattle.marker.specs.Marked.{marked};
 ghost use Rattle.sheets.specs.Writing.{Wrote};
 ghost use Rattle.sheets.specs.Lines.{line};
@@ -12,8 +12,8 @@ use crate::lines::amounts;
 use crate::lines::counted;
 use crate::lines::word;
 use crate::pairs::pair_lines;
-use marker::Verdict;
 use tables::Quantity;
+use verdicts::Verdict;
 
 fn header(page: &mut [u8; 8216], growers: u16, pilots: u16) -> usize
     requires { ⌜ (growers ≤ 16) × (pilots ≤ 16) ⌝ }

@@ -3,8 +3,8 @@
 use mathlib.Core.Path.{_≡_, refl}
 use mathlib.Core.List.{[], _∷_}
 use Rattle.market.specs.declared.Deal.the-variants.{Free}
-use Rattle.marker.specs.declared.Verdict.the-variants.{Refused, Blocks}
-use Rattle.marker.specs.Values.{valuesOf}
+use Rattle.verdicts.specs.declared.Verdict.the-variants.{Refused, Blocks}
+use Rattle.verdicts.specs.Values.{valuesOf}
 use Rattle.sheets.specs.Decimal.{decimal}
 use Rattle.texts.specs.NumberText.{WrongLine, Listed, readFrom, numbersOf}
 use Rattle.texts.specs.MarkLine.{markLine}

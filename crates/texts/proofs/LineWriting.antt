@@ -9,7 +9,7 @@ use borrow.Author.Tests.{lt-ltb}
 use lib.ListN.{length, set, length-append}
 use lib.Seq.{length-sets}
 use Rattle.io.specs.Digits.{glyph, digits, Fewest}
-use Rattle.marker.specs.declared.Values.{Values}
+use Rattle.verdicts.specs.declared.Values.{Values}
 use Rattle.sheets.specs.Decimal.{digit, decimal}
 use Rattle.sheets.specs.Writing.{Wrote}
 use Rattle.sheets.proofs.Spelling.{units-alone, tens-first, hundreds-first, decimal-is, decimal-short}

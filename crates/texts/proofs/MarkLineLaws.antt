@@ -15,7 +15,7 @@ use Rattle.reader.specs.Walk.{Numbers}
 use Rattle.reader.specs.Answer.{Tells, kept}
 use Rattle.reader.proofs.Facts.{reply-with-room, reply-without-room, kept-without-room, written-front}
 use Rattle.reader.proofs.Telling.{tells}
-use Rattle.marker.specs.declared.Values.{Values}
+use Rattle.verdicts.specs.declared.Values.{Values}
 use Rattle.marker.specs.Marked.{markedValues}
 use Rattle.sheets.specs.Lines.{line}
 use Rattle.sheets.specs.Sheet.{refusedText}

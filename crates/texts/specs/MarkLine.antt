@@ -7,7 +7,7 @@ use mathlib.Core.List.{List, [], _∷_, _++_}
 use lib.Dec.{eqb}
 use Rattle.market.specs.declared.Deal.{Deal}
 use Rattle.market.specs.declared.Deal.the-variants.{Tariff, Free}
-use Rattle.marker.specs.declared.Values.{Values}
+use Rattle.verdicts.specs.declared.Values.{Values}
 use Rattle.sheets.specs.Decimal.{decimal}
 use Rattle.sheets.specs.Lines.{line}
 use Rattle.sheets.specs.Sheet.{refusedText}

@@ -3,7 +3,7 @@
 use mathlib.Core.Path.{_≡_, sym, ap, _∙_}
 use Rattle.reader.specs.Walk.{Numbers}
 use Rattle.reader.specs.Answer.{unpacked}
-use Rattle.marker.specs.Values.{valuesOf}
+use Rattle.verdicts.specs.Values.{valuesOf}
 use Rattle.marker.proofs.Marking.{refused-ticket, unpacked-is, marked-ticket, few-parties}
 use borrow.Author.Needs.{needs}
 use Rattle.marker.proofs.mark.Statement.{statement}

@@ -1,6 +1,5 @@
 -- `marker::hours_with` meets its contract: an arm for each deal.
 use native.Mathlib.Omega.{arith}
-use borrow.Author.Needs.{needs}
 use Rattle.marker.proofs.deal_faults.hours_with.Statement.{statement}
 use Rattle.marker.proofs.deal_faults.hours_with.Tie as tie
 

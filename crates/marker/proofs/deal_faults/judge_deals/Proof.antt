@@ -5,9 +5,10 @@ use native.Mathlib.Omega.{arith}
 use Rattle.grid.specs.First.{none}
 use Rattle.grid.proofs.FirstPlaces.{none-le}
 use Rattle.grid.proofs.Places.{row-next}
-use Rattle.marker.specs.declared.Verdict.the-variants.{Sound}
+use Rattle.verdicts.specs.declared.Verdict.the-variants.{Sound}
 use Rattle.marker.specs.Verdict.{dealNumber, dealFaultAt, wrongDeal, dealVerdict}
-use Rattle.marker.specs.Tables.{foundIf, Origin, ticketFrom, settlementFrom}
+use Rattle.verdicts.specs.Faults.{foundIf}
+use Rattle.marker.specs.Tables.{Origin, ticketFrom, settlementFrom}
 use Rattle.marker.proofs.Views.{deal-found-is}
 use Rattle.marker.proofs.Verdicts.{deals-judged, deal-judged, deal-passed}
 use borrow.Author.Needs.{needs}

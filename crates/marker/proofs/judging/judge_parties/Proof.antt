@@ -1,5 +1,6 @@
 -- `marker::judge_parties` meets its contract: growers, then pilots, then deals.
 use mathlib.Core.Path.{_∙_}
+use native.Mathlib.Omega.{arith}
 use Rattle.marker.specs.Tables.{ticketFrom, settlementFrom}
 use Rattle.marker.proofs.Views.{first-grower, first-pilot}
 use Rattle.marker.proofs.Verdicts.{grower-judged, pilot-judged, hours-judged}
@@ -8,7 +9,7 @@ use Rattle.marker.proofs.judging.judge_parties.Statement.{statement}
 use Rattle.marker.proofs.judging.judge_parties.Tie as tie
 
 returns : tie.Need-returns
-returns c = λ o. grower-judged (ticketFrom o) (settlementFrom o) _ (c .before .first-over .ensures ∙ first-grower o) (c .if1 .taken)
+returns c = λ o. grower-judged (ticketFrom o) (settlementFrom o) _ (c .before .first-over .ensures ∙ first-grower o) (omega arith)
 
 returns-2 : tie.Need-returns-2
 returns-2 c =

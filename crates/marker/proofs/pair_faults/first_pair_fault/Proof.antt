@@ -9,7 +9,7 @@ use Rattle.grid.proofs.Places.{row-next, row-within}
 use Rattle.market.specs.Market.{Ticket, Settlement}
 use Rattle.market.specs.Tables.{ticketIn, settlementIn}
 use Rattle.marker.specs.Verdict.{byPair, pairVerdict, pairFaultAt}
-use Rattle.marker.specs.Tables.{foundIf}
+use Rattle.verdicts.specs.Faults.{foundIf}
 use Rattle.marker.proofs.Verdicts.{found-holds, found-fails, found-first, found-none, pair-found}
 use borrow.Author.Needs.{needs}
 use Rattle.marker.proofs.pair_faults.first_pair_fault.Statement.{statement}
