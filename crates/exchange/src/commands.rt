@@ -10,9 +10,9 @@ use files::end_line;
 use files::say;
 use libc::STDERR_FILENO;
 use libc::STDOUT_FILENO;
+use lists::Listed;
 use reader::Reply;
 use report::front_bytes;
-use texts::Listed;
 use verdicts::Verdict;
 
 fn refused(why: u8) {
@@ -110,7 +110,7 @@ fn pack_numbers(numbers: &[u16], argument: usize) {
 
 fn pack_text(text: &[u8]) {
     let mut numbers = tables::ticket_list();
-    let listed = texts::read_numbers(text, &mut numbers);
+    let listed = lists::read_numbers(text, &mut numbers);
     match listed {
         Listed::Wrong { line } => {
             counted(STDERR_FILENO, b"line ", line as u64);

@@ -2,7 +2,7 @@
 use files::say;
 use libc::STDERR_FILENO;
 use libc::STDOUT_FILENO;
-use texts::Listed;
+use lists::Listed;
 
 // What is done on a ticket.
 pub(crate) enum Operation {
@@ -99,7 +99,7 @@ pub(crate) enum Asked {
 
 fn number_in(word: &[u8]) -> Asked {
     let mut list = [0u16; 1];
-    let listed = texts::read_numbers(word, &mut list);
+    let listed = lists::read_numbers(word, &mut list);
     if let Listed::Done { count } = listed {
         if count == 1 {
             return Asked::Number { value: list[0] };

@@ -1,4 +1,3 @@
-pub mod NumberLaws
 pub mod LineWriting
 pub mod MarkLineLaws
 pub mod Examples

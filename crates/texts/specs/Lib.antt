@@ -1,4 +1,2 @@
--- The definitions that the contracts of `texts` cite, each file over those above it.
-pub mod NumberText
-pub mod Listing
+-- The definitions that the contract of `texts` cites.
 pub mod MarkLine

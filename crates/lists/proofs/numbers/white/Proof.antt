@@ -1,9 +1,9 @@
--- `texts::numbers::white` meets its contract: the first test, or the second.
+-- `lists::numbers::white` meets its contract: the first test, or the second.
 -- Assumes nothing.
 use borrow.Author.Tests.{eq-eqb, ne-eqb}
 use borrow.Author.Needs.{needs}
-use Rattle.texts.proofs.numbers.white.Statement.{statement}
-use Rattle.texts.proofs.numbers.white.Tie as tie
+use Rattle.lists.proofs.numbers.white.Statement.{statement}
+use Rattle.lists.proofs.numbers.white.Tie as tie
 
 returns : tie.Need-returns
 returns c = rw (eq-eqb _ _ (c .if1 .taken))

@@ -7,8 +7,8 @@ use mathlib.Core.List.{List}
 use lib.Dec.{leb}
 use lib.ListN.{length}
 use lib.Seq.{sets}
-use Rattle.texts.specs.declared.numbers.Listed.{Listed}
-use Rattle.texts.specs.NumberText as text
+use Rattle.lists.specs.declared.numbers.Listed.{Listed}
+use Rattle.lists.specs.NumberText as text
 
 -- The answer where `room` places are lent.
 abbrev pub listReply : ℕ → text.Listing → Listed

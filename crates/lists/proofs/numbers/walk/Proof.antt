@@ -1,4 +1,4 @@
--- `texts::numbers::walk` meets its contract: after k turns the bytes that are left, read from here on, make the whole text.
+-- `lists::numbers::walk` meets its contract: after k turns the bytes that are left, read from here on, make the whole text.
 -- Assumes nothing.
 use Prim.Native.Nat.{ℕ, _+_, _-_, _≤_}
 use mathlib.Core.Path.{sym, ap, _∙_}
@@ -6,10 +6,10 @@ use native.Mathlib.Omega.{arith}
 use lib.Seq.{length-sets}
 use lib.ListN.{length}
 use borrow.Author.Needs.{needs}
-use Rattle.texts.specs.NumberText.{numbersIn}
-use Rattle.texts.proofs.NumberLaws.{reading-length, reading-last-room, Reading, reading-starts, reading-turns, reading-stops, reading-room, reading-done}
-use Rattle.texts.proofs.numbers.walk.Statement.{statement}
-use Rattle.texts.proofs.numbers.walk.Tie as tie
+use Rattle.lists.specs.NumberText.{numbersIn}
+use Rattle.lists.proofs.NumberLaws.{reading-length, reading-last-room, Reading, reading-starts, reading-turns, reading-stops, reading-room, reading-done}
+use Rattle.lists.proofs.numbers.walk.Statement.{statement}
+use Rattle.lists.proofs.numbers.walk.Tie as tie
 
 abbrev Inv-loop : tie.InvT-loop
 Inv-loop text list₀ mode₀ passed₀ count₀ k₀ k-end list mode passed count k = (k ≤ k-end) × Reading text list₀ list mode passed count k

@@ -1,12 +1,12 @@
--- `texts::numbers::grown` meets its contract: the number with the digit fits 16 bits, or not.
+-- `lists::numbers::grown` meets its contract: the number with the digit fits 16 bits, or not.
 -- Assumes nothing.
 use Prim.Native.Nat.{_+_, _*_}
 use mathlib.Core.Path.{_≡_}
 use native.Mathlib.Omega.{arith}
 use borrow.Author.Tests.{lt-ltb, le-ltb}
 use borrow.Author.Needs.{needs}
-use Rattle.texts.proofs.numbers.grown.Statement.{statement}
-use Rattle.texts.proofs.numbers.grown.Tie as tie
+use Rattle.lists.proofs.numbers.grown.Statement.{statement}
+use Rattle.lists.proofs.numbers.grown.Tie as tie
 
 returns : tie.Need-returns
 returns c =

@@ -1,8 +1,8 @@
--- `texts::numbers::within` meets its contract: each of two tests in the order of the definition.
+-- `lists::numbers::within` meets its contract: each of two tests in the order of the definition.
 -- Assumes nothing.
 use borrow.Author.Tests.{le-leb, lt-leb}
-use Rattle.texts.proofs.numbers.within.Statement.{statement}
-use Rattle.texts.proofs.numbers.within.Tie as tie
+use Rattle.lists.proofs.numbers.within.Statement.{statement}
+use Rattle.lists.proofs.numbers.within.Tie as tie
 
 returns : tie.Need-returns
 returns c = rw (le-leb _ _ (c .if1 .taken))

@@ -4,9 +4,9 @@ ghost use mathlib.Core.Bool.{_&&_, _||_};
 ghost use Prim.Native.Nat.{_+_, _<_};
 ghost use lib.ListN.{length};
 ghost use lib.Seq.{sets};
-ghost use Rattle.texts.specs.NumberText.{within, white, kindOf, grown, nextMode, ended, last, numbersIn, lineEnds, numbersOf};
-ghost use Rattle.texts.specs.NumberText.{outside, inComment};
-ghost use Rattle.texts.specs.Listing.{Walked, listReply, listKept};
+ghost use Rattle.lists.specs.NumberText.{within, white, kindOf, grown, nextMode, ended, last, numbersIn, lineEnds, numbersOf};
+ghost use Rattle.lists.specs.NumberText.{outside, inComment};
+ghost use Rattle.lists.specs.Listing.{Walked, listReply, listKept};
 
 // What reading numbers from a text answers: the line of the first byte that may not stand where it is, a list that is too short, or
 // how many numbers there are.

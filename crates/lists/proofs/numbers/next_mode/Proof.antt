@@ -1,10 +1,10 @@
--- `texts::numbers::next_mode` meets its contract: an arm for each mode.
+-- `lists::numbers::next_mode` meets its contract: an arm for each mode.
 -- Assumes nothing.
 use mathlib.Core.Path.{ap}
 use borrow.Author.Needs.{needs}
-use Rattle.texts.specs.declared.numbers.Next.the-variants.{On}
-use Rattle.texts.proofs.numbers.next_mode.Statement.{statement}
-use Rattle.texts.proofs.numbers.next_mode.Tie as tie
+use Rattle.lists.specs.declared.numbers.Next.the-variants.{On}
+use Rattle.lists.proofs.numbers.next_mode.Statement.{statement}
+use Rattle.lists.proofs.numbers.next_mode.Tie as tie
 
 returns : tie.Need-returns
 returns c = rw (c .before .enum-told .given .1) (c .outside .ensures)

@@ -1,8 +1,8 @@
--- `texts::numbers::outside` meets its contract: an arm for each kind of byte.
+-- `lists::numbers::outside` meets its contract: an arm for each kind of byte.
 -- Assumes nothing.
 use borrow.Author.Needs.{needs}
-use Rattle.texts.proofs.numbers.outside.Statement.{statement}
-use Rattle.texts.proofs.numbers.outside.Tie as tie
+use Rattle.lists.proofs.numbers.outside.Statement.{statement}
+use Rattle.lists.proofs.numbers.outside.Tie as tie
 
 returns : tie.Need-returns
 returns c = rw (c .enum-told .given .1)

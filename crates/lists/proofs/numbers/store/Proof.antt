@@ -1,13 +1,13 @@
--- `texts::numbers::store` meets its contract: nothing, or one number, which a list that is too short does not take.
+-- `lists::numbers::store` meets its contract: nothing, or one number, which a list that is too short does not take.
 -- Assumes nothing.
 use mathlib.Core.Path.{_≡_, refl, sym}
 use native.Mathlib.Omega.{arith}
 use lib.Seq.{set-out}
 use lib.ListN.{length}
 use borrow.Author.Needs.{needs}
-use Rattle.texts.specs.NumberText.{numbersIn}
-use Rattle.texts.proofs.numbers.store.Statement.{statement}
-use Rattle.texts.proofs.numbers.store.Tie as tie
+use Rattle.lists.specs.NumberText.{numbersIn}
+use Rattle.lists.proofs.numbers.store.Statement.{statement}
+use Rattle.lists.proofs.numbers.store.Tie as tie
 
 returns : tie.Need-returns
 returns c = rw (c .before .before .given .given .1) (refl, refl)

@@ -5,14 +5,14 @@ use Prim.Native.Nat.{ℕ, _+_, _-_, _*_}
 use mathlib.Core.Bool.{Bool, cond, _&&_, _||_}
 use mathlib.Core.List.{List, [], _∷_, _++_}
 use lib.Dec.{leb, ltb, eqb}
-use Rattle.texts.specs.declared.numbers.Kind.{Kind}
-use Rattle.texts.specs.declared.numbers.Kind.the-variants.{LineEnd, Blank, Hash, Digit, Other}
-use Rattle.texts.specs.declared.numbers.Mode.{Mode}
-use Rattle.texts.specs.declared.numbers.Mode.the-variants.{Gap, Comment, Number}
-use Rattle.texts.specs.declared.numbers.Next.{Next}
-use Rattle.texts.specs.declared.numbers.Next.the-variants.{Stop, On}
-use Rattle.texts.specs.declared.numbers.Given.{Given}
-use Rattle.texts.specs.declared.numbers.Given.the-variants.{Nothing, Whole}
+use Rattle.lists.specs.declared.numbers.Kind.{Kind}
+use Rattle.lists.specs.declared.numbers.Kind.the-variants.{LineEnd, Blank, Hash, Digit, Other}
+use Rattle.lists.specs.declared.numbers.Mode.{Mode}
+use Rattle.lists.specs.declared.numbers.Mode.the-variants.{Gap, Comment, Number}
+use Rattle.lists.specs.declared.numbers.Next.{Next}
+use Rattle.lists.specs.declared.numbers.Next.the-variants.{Stop, On}
+use Rattle.lists.specs.declared.numbers.Given.{Given}
+use Rattle.lists.specs.declared.numbers.Given.the-variants.{Nothing, Whole}
 
 -- What a text comes to: the line, from 1 on, of the first byte that may not stand where it is, or its numbers.
 pub data Listing : Type 0 where

@@ -1,12 +1,12 @@
--- `texts::numbers::kind_of` meets its contract: the tests in the order of the definition, each of which is known where the next is asked.
+-- `lists::numbers::kind_of` meets its contract: the tests in the order of the definition, each of which is known where the next is asked.
 -- Assumes nothing.
 use mathlib.Core.Path.{_∙_, sym}
 use native.Mathlib.Omega.{arith}
 use borrow.Author.Tests.{eq-eqb, ne-eqb, leb-true}
 use borrow.Author.Needs.{needs}
-use Rattle.texts.proofs.NumberLaws.{both-left}
-use Rattle.texts.proofs.numbers.kind_of.Statement.{statement}
-use Rattle.texts.proofs.numbers.kind_of.Tie as tie
+use Rattle.lists.proofs.NumberLaws.{both-left}
+use Rattle.lists.proofs.numbers.kind_of.Statement.{statement}
+use Rattle.lists.proofs.numbers.kind_of.Tie as tie
 
 returns : tie.Need-returns
 returns c = rw (eq-eqb _ _ (c .if1 .taken))

@@ -1,8 +1,8 @@
--- `texts::numbers::last` meets its contract: an arm for each mode.
+-- `lists::numbers::last` meets its contract: an arm for each mode.
 -- Assumes nothing.
 use borrow.Author.Needs.{needs}
-use Rattle.texts.proofs.numbers.last.Statement.{statement}
-use Rattle.texts.proofs.numbers.last.Tie as tie
+use Rattle.lists.proofs.numbers.last.Statement.{statement}
+use Rattle.lists.proofs.numbers.last.Tie as tie
 
 returns-3 : tie.Need-returns-3
 returns-3 c = rw (c .before .mode .given .1)

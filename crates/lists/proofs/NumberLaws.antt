@@ -9,16 +9,16 @@ use native.Mathlib.Omega.{arith}
 use borrow.Author.Tests.{le-leb, lt-leb}
 use lib.ListN.{length, getD, set, drop, length-append, drop-of-length-le}
 use lib.Seq.{sets, length-sets, drop-cons}
-use Rattle.texts.specs.declared.numbers.Kind.{Kind}
-use Rattle.texts.specs.declared.numbers.Kind.the-variants.{LineEnd, Blank, Hash, Digit, Other}
-use Rattle.texts.specs.declared.numbers.Mode.{Mode}
-use Rattle.texts.specs.declared.numbers.Mode.the-variants.{Gap, Comment, Number}
-use Rattle.texts.specs.declared.numbers.Next.the-variants.{Stop, On}
-use Rattle.texts.specs.declared.numbers.Given.{Given}
-use Rattle.texts.specs.declared.numbers.Listed.{Listed}
-use Rattle.texts.specs.NumberText as text
-use Rattle.texts.specs.NumberText.{kindOf, nextMode, ended, last, numbersIn, lineEnds, with, readFrom, numbersOf}
-use Rattle.texts.specs.Listing.{Walked, listReply, listKept}
+use Rattle.lists.specs.declared.numbers.Kind.{Kind}
+use Rattle.lists.specs.declared.numbers.Kind.the-variants.{LineEnd, Blank, Hash, Digit, Other}
+use Rattle.lists.specs.declared.numbers.Mode.{Mode}
+use Rattle.lists.specs.declared.numbers.Mode.the-variants.{Gap, Comment, Number}
+use Rattle.lists.specs.declared.numbers.Next.the-variants.{Stop, On}
+use Rattle.lists.specs.declared.numbers.Given.{Given}
+use Rattle.lists.specs.declared.numbers.Listed.{Listed}
+use Rattle.lists.specs.NumberText as text
+use Rattle.lists.specs.NumberText.{kindOf, nextMode, ended, last, numbersIn, lineEnds, with, readFrom, numbersOf}
+use Rattle.lists.specs.Listing.{Walked, listReply, listKept}
 
 pub both-left : (a b : Bool) → (a && b) ≡ true → a ≡ true
 both-left true b e = refl

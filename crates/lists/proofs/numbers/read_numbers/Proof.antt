@@ -1,9 +1,9 @@
--- `texts::numbers::read_numbers` meets its contract: the first walk counts the numbers, and the second stores them where there is room.
+-- `lists::numbers::read_numbers` meets its contract: the first walk counts the numbers, and the second stores them where there is room.
 -- Assumes nothing.
 use borrow.Author.Needs.{needs}
-use Rattle.texts.proofs.NumberLaws.{answer-wrong, answer-none, answer-short, answer-done}
-use Rattle.texts.proofs.numbers.read_numbers.Statement.{statement}
-use Rattle.texts.proofs.numbers.read_numbers.Tie as tie
+use Rattle.lists.proofs.NumberLaws.{answer-wrong, answer-none, answer-short, answer-done}
+use Rattle.lists.proofs.numbers.read_numbers.Statement.{statement}
+use Rattle.lists.proofs.numbers.read_numbers.Tie as tie
 
 returns : tie.Need-returns
 returns c =
