@@ -1,4 +1,4 @@
--- The refusal numbers of docs/FORMAT.md: the one place where they stand.
+-- The refusal numbers of docs/FORMAT.md. The code has the same in src/refusals.rt, and is proved to.
 use Prim.Native.Nat.{ℕ}
 use Rattle.reader.specs.declared.refusals.Document.{Document}
 use Rattle.reader.specs.declared.refusals.Refusals.{Refusals}
