@@ -109,14 +109,14 @@ fn pack_numbers(numbers: &[u16], argument: usize) {
 }
 
 fn pack_text(text: &[u8]) {
-    let mut numbers = tables::ticket_list();
+    let mut numbers = room::listed_numbers();
     let listed = lists::read_numbers(text, &mut numbers);
     match listed {
         Listed::Wrong { line } => {
             counted(STDERR_FILENO, b"line ", line as u64);
             say(STDERR_FILENO, b": not a number up to 65535\n");
         }
-        Listed::NoRoom => say(STDERR_FILENO, b"more than 1315 numbers\n"),
+        Listed::NoRoom => say(STDERR_FILENO, b"more than 32768 numbers\n"),
         Listed::Done { count } => pack_numbers(grid::front(&numbers, count), 3),
     }
 }

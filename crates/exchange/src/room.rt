@@ -10,6 +10,11 @@ pub(crate) fn settlement_bytes() -> [u8; 1540] {
     [0; 1540]
 }
 
+// As many numbers as a text of 65,535 bytes can list, so that a list that is too long is refused as one that has numbers left.
+pub(crate) fn listed_numbers() -> [u16; 32768] {
+    [0; 32768]
+}
+
 pub(crate) fn page() -> [u8; 8216] {
     [0; sheets::PAGE]
 }
