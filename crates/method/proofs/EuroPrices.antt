@@ -1,51 +1,42 @@
--- The search for a number to add to every price, so that none is a whole number of euros.
+-- A number that makes no price whole is found below 17, since there are at most 16 prices.
 -- Assumes nothing.
-use Prim.Native.Nat.{ℕ, _+_, _%_, _≤_, _<_}
-use mathlib.Core.Path.{_≡_}
-use mathlib.Core.Logic.{_≢_}
+use Prim.Native.Nat.{ℕ, _+_, _%_, _≤_, _<_, min}
+use mathlib.Core.Path.{_≡_, sym, _∙_}
+use mathlib.Core.Bool.{true, true≢false}
+use mathlib.Core.Logic.{_≢_, ⊎-elim}
 use mathlib.Core.List.{List, []}
 use native.Mathlib.Omega.{arith}
-use Rattle.grid.proofs.Cases.{by-index}
+use borrow.Author.Tests.{leb-true, eqb-false, le-leb, ne-eqb}
+use Rattle.grid.specs.First.{IsFirst}
+use Rattle.grid.proofs.Cases.{lt-or-le}
+use Rattle.grid.proofs.FirstPlaces.{first-is, first-first}
 use Rattle.market.specs.Method.{GoodShift}
 use Rattle.market.proofs.Rounding.{good-shift}
+use Rattle.euros.specs.Euros.{isWhole, noneWhole, shiftOf}
 use Rattle.method.specs.View.{line, ticket}
-use Rattle.method.specs.Result.{Clash}
 
--- The pilots before k do not clash.
-pub record Apart (prices : List ℕ) (shift k : ℕ) : Type 0 where
-  pub apart : (j : ℕ) → j < k → (line prices j + shift) % 18 ≢ 0
+module _ (prices : List ℕ) (m : ℕ) where
+  -- what the test says of every price
+  none-whole : (k : ℕ) → ((l : ℕ) → l < m → (line prices l + k) % 18 ≢ 0) → noneWhole prices m k ≡ true
+  none-whole k apart =
+      le-leb m _ (omega (arith, first-is (isWhole prices k) m m (omega arith) (λ q h. ne-eqb _ 0 (apart q h)) (λ h. absurd (omega arith))))
 
-pub apart-none : (prices : List ℕ) (shift : ℕ) → Apart prices shift 0
-apart-none prices shift = record { apart = λ j h. absurd (omega arith) }
+  whole-none : (k : ℕ) → noneWhole prices m k ≡ true → (l : ℕ) → l < m → (line prices l + k) % 18 ≢ 0
+  whole-none k none l h = eqb-false _ 0 (first-first (isWhole prices k) m .before l (omega (arith, leb-true m _ none)))
 
-pub apart-more : (prices : List ℕ) (shift k : ℕ) → Apart prices shift k → (line prices k + shift) % 18 ≢ 0 → Apart prices shift (k + 1)
-apart-more prices shift k all ne =
-    record { apart = by-index (λ j. j < k + 1 → (line prices j + shift) % 18 ≢ 0) k (λ _. ne) (λ j n h. all .apart j (omega arith)) }
+  shift-good : m ≤ 16 → GoodShift (ticket 0 m [] [] []) (line prices) (shiftOf prices m)
+  shift-good few = record { small = small; apart = whole-none _ (found .there (omega (arith, small))) }
+    where
+      found : IsFirst (noneWhole prices m) 17 (shiftOf prices m)
+      found = first-first (noneWhole prices m) 17
 
-pub clash-some : (prices : List ℕ) (m shift j : ℕ) → j < m → (line prices j + shift) % 18 ≡ 0 → Clash prices m shift j
-clash-some prices m shift j h e = record { some = λ _. e; none = λ x. absurd (omega arith) }
+      small : shiftOf prices m ≤ 16
+      small =
+          let (k, good) = good-shift (ticket 0 m [] [] []) (line prices) few in
+          ⊎-elim (λ h. omega arith)
+          (λ h. absurd (true≢false (sym (none-whole k (good .apart)) ∙ found .before k (omega (arith, good .small)))))
+          (lt-or-le (shiftOf prices m) 17)
 
-pub clash-none : (prices : List ℕ) (m shift j k : ℕ) → m ≤ j → j ≤ k → Apart prices shift k → Clash prices m shift j
-clash-none prices m shift j k h l all = record { some = λ x. absurd (omega arith); none = λ _ i hi. all .apart i (omega arith) }
-
--- The shifts before r all clash.
-pub record Spoilt (prices : List ℕ) (m r : ℕ) : Type 0 where
-  pub spoilt : (k : ℕ) → k < r → ((l : ℕ) → l < m → (line prices l + k) % 18 ≢ 0) → ⊥
-
-pub spoilt-none : (prices : List ℕ) (m : ℕ) → Spoilt prices m 0
-spoilt-none prices m = record { spoilt = λ k h. absurd (omega arith) }
-
-pub spoilt-more : (prices : List ℕ) (m r j : ℕ) → Clash prices m r j → j < m → Spoilt prices m r → Spoilt prices m (r + 1)
-spoilt-more prices m r j c h s = record {
-  spoilt = by-index (λ k. k < r + 1 → ((l : ℕ) → l < m → (line prices l + k) % 18 ≢ 0) → ⊥) r
-      (λ _ f. f j h (c .some h)) (λ k n l. s .spoilt k (omega arith));
-}
-
-pub good-if-no-clash : (prices : List ℕ) (m r j : ℕ) → Clash prices m r j → m ≤ j → r ≤ 16 →
-    GoodShift (ticket 0 m [] [] []) (line prices) r
-good-if-no-clash prices m r j c h small = record { small = small; apart = λ l hl. c .none h l hl }
-
-pub not-all-spoilt : (prices : List ℕ) (m r : ℕ) → m ≤ 16 → 17 ≤ r → Spoilt prices m r → ⊥
-not-all-spoilt prices m r few h s =
-    let (k, g) = good-shift (ticket 0 m [] [] []) (line prices) few in
-    s .spoilt k (omega (arith, g .small)) (g .apart)
+-- the number that the code finds
+pub found-good : (prices : List ℕ) (m r : ℕ) → m ≤ 16 → r ≡ shiftOf prices (min 16 m) → GoodShift (ticket 0 m [] [] []) (line prices) r
+found-good prices m r few e = let same : min 16 m ≡ m = omega arith in rw (e, same) (shift-good prices m few)

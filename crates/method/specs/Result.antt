@@ -1,8 +1,8 @@
 -- The result: squares of what everybody flies, from the hours held and the prices.
 -- Assumes nothing.
-use Prim.Native.Nat.{ℕ, _+_, _/_, _%_, _≤_, _<_}
+use Prim.Native.Nat.{ℕ, _≤_}
 use mathlib.Core.Path.{_≡_}
-use mathlib.Core.Logic.{_⊎_, _≢_}
+use mathlib.Core.Logic.{_⊎_}
 use mathlib.Core.List.{List}
 use lib.Dec.{ltb}
 use Rattle.grid.specs.Pick.{pick}
@@ -10,12 +10,13 @@ use Rattle.grid.specs.Grid.{Grid, at}
 use Rattle.grid.specs.Fill.{Filled, FilledOver}
 use Rattle.market.specs.declared.Deal.the-variants.{Tariff, Free}
 use Rattle.market.specs.Method.{hoursOf}
+use Rattle.euros.specs.Euros.{eurosOf}
 use Rattle.method.specs.declared.Agreed.{Agreed}
 use Rattle.method.specs.View.{line, heldIn}
 
 -- the pay per hour of a free deal, in whole euros, of the pilot's price and the deal's hours
 abbrev pub payAt : ℕ → ℕ → ℕ → ℕ
-payAt price shift hours = pick (ltb 0 hours) ((price + shift) / 18) 0
+payAt price shift hours = pick (ltb 0 hours) (eurosOf price shift) 0
 
 -- the pay of every pair
 abbrev pub paysOf : List (List Agreed) → List ℕ → ℕ → ℕ → ℕ → ℕ
@@ -32,8 +33,3 @@ pub record Beyond (n m : ℕ) (tariffBefore freeBefore tariffHours freeHours pay
   pub tariffHoursKept : (i j : ℕ) → (n ≤ i) ⊎ (m ≤ j) → at tariffHours i j ≡ at tariffBefore i j
   pub freeHoursKept : (i j : ℕ) → (n ≤ i) ⊎ (m ≤ j) → at freeHours i j ≡ at freeBefore i j
   pub noPay : (i j : ℕ) → (n ≤ i) ⊎ (m ≤ j) → at pay i j ≡ 0
-
--- j is the first pilot whose price, moved up by shift, is a whole number of euros; pilots or more if there is none
-pub record Clash (prices : List ℕ) (pilots shift j : ℕ) : Type 0 where
-  pub some : j < pilots → (line prices j + shift) % 18 ≡ 0
-  pub none : pilots ≤ j → (l : ℕ) → l < pilots → (line prices l + shift) % 18 ≢ 0

@@ -1,15 +1,15 @@
 // The start and the end: no hours and no prices; then prices in whole euros, and what everybody flies.
 ghost use mathlib.Core.Path.{_≡_};
 ghost use Prim.Native.Nat.{ℕ, _<_, _≤_};
-ghost use mathlib.Core.List.{[]};
 ghost use lib.ListN.{length};
 ghost use Rattle.market.specs.declared.Deal.{Deal};
-ghost use Rattle.market.specs.Method.{GoodShift, hoursOf};
-ghost use Rattle.method.specs.View.{line, ticket, agreedIn, agreedAt, noHours, heldIn};
+ghost use Rattle.market.specs.Method.{hoursOf};
+ghost use Rattle.method.specs.View.{line, agreedIn, agreedAt, noHours, heldIn};
 ghost use Rattle.method.specs.Changes.{Full};
-ghost use Rattle.method.specs.Result.{payAt, Flown, Clash};
+ghost use Rattle.method.specs.Result.{payAt, Flown};
 use crate::Agreed;
 use crate::numbers::narrow;
+use euros::whole_euros;
 
 pub(crate) fn zero_prices() -> [u32; 16]
     ensures { λ r. ⌜ (length r ≡ 16) × ((j : ℕ) → line r j ≡ 0) ⌝ }
@@ -35,43 +35,13 @@ pub(crate) fn no_hours() -> [[Agreed; 16]; 16]
     [row; 16]
 }
 
-// The first pilot whose price, moved up by `shift`, is a whole number of euros; `pilots` if there is none.
-fn clash(pilots: usize, price: [u32; 16], shift: u32) -> usize
-    requires { ⌜ (pilots ≤ 16) × (shift ≤ 16) ⌝ }
-    requires { ⌜ ((j : ℕ) → j < pilots → line price j ≤ 1179631) ⌝ }
-    ensures { λ j. ⌜ Clash price pilots shift j ⌝ }
-{
-    for j in 0..pilots {
-        if (price[j] + shift) % 18 == 0 {
-            return j;
-        }
-    }
-    pilots
-}
-
-// A number to add to every price before it is rounded down to euros.
-pub(crate) fn rounding(pilots: usize, price: [u32; 16]) -> u32
-    requires { ⌜ pilots ≤ 16 ⌝ }
-    requires { ⌜ ((j : ℕ) → j < pilots → line price j ≤ 1179631) ⌝ }
-    ensures { λ r. ⌜ GoodShift (ticket 0 pilots [] [] []) (line price) r ⌝ }
-{
-    let mut shift: u32 = 0;
-    while shift < 17 {
-        if pilots <= clash(pilots, price, shift) {
-            return shift;
-        }
-        shift += 1;
-    }
-    0
-}
-
-// The pay for a free hour, 0 where the pair has none.
+// The pay for a free-deal hour, 0 where the pair has none.
 fn pay_for(hours: u16, price: u32, shift: u32) -> u16
     requires { ⌜ (price ≤ 1179631) × (shift ≤ 16) ⌝ }
     ensures { λ r. ⌜ r ≡ payAt price shift hours ⌝ }
 {
     if 0 < hours {
-        narrow((price + shift) / 18)
+        narrow(whole_euros(price, shift))
     } else {
         0
     }

@@ -93,6 +93,6 @@ pub fn settle_squares(
     );
     let mut price = finish::zero_prices();
     let held = turns::run(n, m, grower_hours, pilot_hours, terms, &mut price);
-    let shift = finish::rounding(m, price);
+    let shift = euros::rounding(m, price);
     finish::write_flown(n, m, held, price, shift, tariff_hours, free_hours)
 }

@@ -7,7 +7,7 @@ use Rattle.method.proofs.finish.pay_for.Statement.{statement}
 use Rattle.method.proofs.finish.pay_for.Tie as tie
 
 returns : tie.Need-returns
-returns c = rw (lt-ltb _ _ (c .before .if1 .taken)) (omega arith)
+returns c = rw (lt-ltb _ _ (c .before .before .if1 .taken)) (omega arith)
 
 returns-2 : tie.Need-returns-2
 returns-2 c = rw (le-ltb _ _ (c .if1 .left))
@@ -16,7 +16,7 @@ pub pay-for-spec : {M : Type 1} → statement M
 pay-for-spec =
     tie.close
     (tie.spec
-    (λ c. search needs)
+    (λ c κs. search needs)
     (λ c κs. search needs)
     returns
     returns-2)
