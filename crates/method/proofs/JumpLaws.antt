@@ -16,7 +16,7 @@ use Rattle.market.specs.Market.{Ticket, cap}
 use Rattle.market.specs.Method.{Held, byTariff, oldFree, newFree, hoursOf, offer, worth}
 use Rattle.method.specs.declared.Terms.{Terms}
 use Rattle.method.specs.declared.Agreed.{Agreed}
-use Rattle.method.specs.View.{line, ticket, alone, heldIn, heldBy}
+use Rattle.method.specs.View.{line, ticket, alone, heldIn, heldBy, topPrice}
 use Rattle.method.specs.Choice.{chance}
 use Rattle.method.specs.Jumps.{among, WorthAtLeast, OffersAtMost, GrowerBears, TariffsBear, GrowersBear, PilotsBear, RaisedMarked}
 
@@ -200,12 +200,12 @@ module _ (chosen : ℕ → Bool) (free price : ℕ → ℕ) where
     below = λ x pos le. all .below x pos (omega arith);
   }
 
-  pub pilots-more : (k r r′ : ℕ) → r′ ≤ r → (chosen k ≡ true → free k ≡ 0) → (chosen k ≡ true → r′ ≤ 1179631 - price k) →
+  pub pilots-more : (k r r′ : ℕ) → r′ ≤ r → (chosen k ≡ true → free k ≡ 0) → (chosen k ≡ true → r′ ≤ topPrice - price k) →
       PilotsBear chosen free price k r → PilotsBear chosen free price (k + 1) r′
   pilots-more k r r′ a none below all = record {
     full = λ pos. by-index (λ j. j < k + 1 → chosen j ≡ true → free j ≡ 0) k (λ _ m. none m)
         (λ j ne h. all .full (omega arith) j (omega arith));
-    below = λ x pos le. by-index (λ j. j < k + 1 → chosen j ≡ true → price j + x ≤ 1179631) k (λ _ m. omega (arith, below m))
+    below = λ x pos le. by-index (λ j. j < k + 1 → chosen j ≡ true → price j + x ≤ topPrice) k (λ _ m. omega (arith, below m))
         (λ j ne h. all .below x pos (omega arith) j (omega arith));
   }
 

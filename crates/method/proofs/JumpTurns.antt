@@ -13,7 +13,7 @@ use Rattle.market.specs.Steps as steps
 use Rattle.market.proofs.Jump.{step-jump, jump-falls}
 use Rattle.method.specs.declared.Terms.{Terms}
 use Rattle.method.specs.declared.Agreed.{Agreed}
-use Rattle.method.specs.View.{line, ticket, heldIn}
+use Rattle.method.specs.View.{line, ticket, heldIn, topPrice}
 use Rattle.method.specs.State.{Live, FreeHours, Turned}
 use Rattle.method.specs.Jumps.{among, GrowersBear, PilotsBear, RaisedMarked}
 use Rattle.method.specs.Rises.{Jumps}
@@ -42,7 +42,7 @@ module _ (t : Ticket) (prices prices′ : List ℕ) (held : List (List Agreed)) 
     (pilots : PilotsBear (among marks) (line free) (line prices) (t .pilots) x)
     (up : RaisedMarked prices prices′ marks (t .pilots) x) where
   jump : steps.Jump t (among marks) x (line prices) (line prices′) (heldIn held)
-      (low t (among marks) (line prices) (heldIn held) x some growers) 1179631
+      (low t (among marks) (line prices) (heldIn held) x some growers) topPrice
   jump = record {
     prices = record {
       risen = λ l hl e. rw e at (up .price l hl);
@@ -56,7 +56,7 @@ module _ (t : Ticket) (prices prices′ : List ℕ) (held : List (List Agreed)) 
     grower = borne t (among marks) (line prices) (heldIn held) x some growers;
   }
 
-  below-top : (l : ℕ) → l < t .pilots → (b : Bool) → among marks l ≡ b → line prices′ l ≤ 1179631
+  below-top : (l : ℕ) → l < t .pilots → (b : Bool) → among marks l ≡ b → line prices′ l ≤ topPrice
   below-top l hl true e = omega (arith, jump .prices .risen l hl e, jump .pilot l hl e .below)
   below-top l hl false e = omega (arith, jump .prices .kept l hl e, live .low l hl)
 

@@ -17,7 +17,7 @@ use Rattle.market.proofs.Squares.{raised-of}
 use Rattle.market.proofs.Steps.{start, step-add, step-move, step-raise}
 use Rattle.market.proofs.Measure.{add-falls, move-falls, raise-falls}
 use Rattle.method.specs.declared.Agreed.{Agreed}
-use Rattle.method.specs.View.{line, heldIn, hoursHeld, agreedAt, noHours}
+use Rattle.method.specs.View.{line, heldIn, hoursHeld, agreedAt, noHours, topPrice}
 use Rattle.method.specs.State.{Fit, Live, Turned}
 use Rattle.method.specs.Choice.{Wanted}
 use Rattle.method.specs.LateHours.{lateSlot, HasLate}
@@ -68,7 +68,7 @@ module _ (t : Ticket) (prices : List ℕ) (held : List (List Agreed)) (fit : Fit
       low = live .low;
       inv = step-add hi hj fits (best x room free) (p .1) (live .inv);
     };
-    less = add-falls t (line prices) 1179631 hi hj some fresh fits (p .1);
+    less = add-falls t (line prices) topPrice hi hj some fresh fits (p .1);
   }
 
   -- the pilot has late hours
@@ -83,11 +83,11 @@ module _ (t : Ticket) (prices : List ℕ) (held : List (List Agreed)) (fit : Fit
       low = live .low;
       inv = step-move hi (v .grower) hj (best x room free) put (taken .1) (live .inv);
     };
-    less = move-falls t (line prices) 1179631 hi (v .grower) hj some fresh (v .late) put (taken .1);
+    less = move-falls t (line prices) topPrice hi (v .grower) hj some fresh (v .late) put (taken .1);
   }
 
-  below : line prices j < 1179631
-  below = below-top t (line prices) i j 1179631 d
+  below : line prices j < topPrice
+  below = below-top t (line prices) i j topPrice d
       (omega (arith, fit .tariffPay i j)) (omega (arith, fit .jointGain i j)) (want .taken)
 
   pub raised : (prices′ : List ℕ) (held′ : List (List Agreed)) → prices′ ≡ set prices j (getD prices j 0 + 1) → Aged held held′ j (t .growers) →
@@ -113,11 +113,11 @@ module _ (t : Ticket) (prices : List ℕ) (held : List (List Agreed)) (fit : Fit
         live = record {
           full = fl;
           sixteen = rw e (length-set prices j (getD prices j 0 + 1) ∙ live .sixteen);
-          low = by-index (λ l. l < t .pilots → line prices′ l ≤ 1179631) j (λ _. omega (arith, up .there .risen, below))
+          low = by-index (λ l. l < t .pilots → line prices′ l ≤ topPrice) j (λ _. omega (arith, up .there .risen, below))
               (λ l ne hl. rw e (omega (arith, getD-set-other prices j l (getD prices j 0 + 1) 0 ne, live .low l hl)));
           inv = step-raise full none up (live .inv);
         };
-        less = raise-falls 1179631 hj below full up;
+        less = raise-falls topPrice hj below full up;
       }
 
 -- At the start all is 0.

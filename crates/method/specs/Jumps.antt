@@ -10,7 +10,7 @@ use Rattle.market.specs.declared.Deal.the-variants.{Tariff, Free}
 use Rattle.market.specs.Market.{Ticket}
 use Rattle.market.specs.Method.{Held, byTariff, oldFree, newFree, worth}
 use Rattle.market.specs.Steps.{JumpGrower}
-use Rattle.method.specs.View.{line}
+use Rattle.method.specs.View.{line, topPrice}
 use Rattle.method.specs.Choice.{chance}
 
 -- the pilots that are marked
@@ -43,10 +43,10 @@ module _ (t : Ticket) (chosen : ℕ → Bool) (price : ℕ → ℕ) (held : Held
     pub grower : (i : ℕ) → i < k → GrowerBears i r
     pub tariffs : (i : ℕ) → i < k → TariffsBear i (t .pilots) r
 
--- the chosen ones of the first k pilots bear every rise of at most r: they have no free hour, and no price rises above 1179631
+-- the chosen ones of the first k pilots bear every rise of at most r: they have no free hour, and no price rises above topPrice
 pub record PilotsBear (chosen : ℕ → Bool) (free price : ℕ → ℕ) (k r : ℕ) : Type 0 where
   pub full : 0 < r → (j : ℕ) → j < k → chosen j ≡ true → free j ≡ 0
-  pub below : (x : ℕ) → 0 < x → x ≤ r → (j : ℕ) → j < k → chosen j ≡ true → price j + x ≤ 1179631
+  pub below : (x : ℕ) → 0 < x → x ≤ r → (j : ℕ) → j < k → chosen j ≡ true → price j + x ≤ topPrice
 
 -- the prices after a rise by x of the marked ones of the first k pilots
 pub record RaisedMarked (prices prices′ : List ℕ) (marks : List Bool) (k x : ℕ) : Type 0 where

@@ -8,7 +8,7 @@ use Rattle.market.specs.Market.{Ticket, usedByPilot}
 use Rattle.market.specs.Method.{hoursOf, Invariant, Done}
 use Rattle.market.specs.Steps.{measure}
 use Rattle.method.specs.declared.Agreed.{Agreed}
-use Rattle.method.specs.View.{line, heldIn}
+use Rattle.method.specs.View.{line, heldIn, topPrice}
 use Rattle.method.specs.Changes.{Full}
 
 -- a ticket of 16-bit numbers that fits the squares, whose parties ask nothing for a free hour
@@ -26,7 +26,7 @@ pub record Fit (t : Ticket) : Type 0 where
 pub record Live (t : Ticket) (prices : List ℕ) (held : List (List Agreed)) : Type 0 where
   pub full : Full held
   pub sixteen : length prices ≡ 16
-  pub low : (j : ℕ) → j < t .pilots → line prices j ≤ 1179631
+  pub low : (j : ℕ) → j < t .pilots → line prices j ≤ topPrice
   pub inv : Invariant t (line prices) (heldIn held)
 
 -- the hours that pilots have free
@@ -34,9 +34,9 @@ pub record FreeHours (t : Ticket) (held : List (List Agreed)) (free : List ℕ) 
   pub sixteen : length free ≡ 16
   pub each : (j : ℕ) → j < t .pilots → usedByPilot t (hoursOf (heldIn held)) j + line free j ≡ t .pilotHours j
 
--- what is left to do; 1179631 is above 18 times every amount
+-- what is left to do
 abbrev pub leftToDo : Ticket → List ℕ → List (List Agreed) → ℕ
-leftToDo t prices held = measure t (line prices) (heldIn held) 1179631
+leftToDo t prices held = measure t (line prices) (heldIn held) topPrice
 
 -- a turn from one state to the next
 pub record Turned (t : Ticket) (prices : List ℕ) (held : List (List Agreed)) (prices′ : List ℕ) (held′ : List (List Agreed)) : Type 0 where

@@ -14,6 +14,10 @@ use Rattle.method.specs.declared.Agreed.{Agreed}
 abbrev pub line : List ℕ → ℕ → ℕ
 line l i = getD l i 0
 
+-- no price is higher: 18 times the largest amount of 16 bits, and 1
+abbrev pub topPrice : ℕ
+topPrice = 1179631
+
 -- outside its square a pair has nothing
 abbrev pub noTerms : Terms
 noTerms = record { «tariff_cap» = 0; «tariff_gain» = 0; «tariff_pay» = 0; «free_cap» = 0; «joint_gain» = 0 }

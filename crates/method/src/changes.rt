@@ -3,7 +3,7 @@ ghost use mathlib.Core.Path.{_≡_};
 ghost use Prim.Native.Nat.{ℕ, _+_, _<_, _≤_};
 ghost use lib.ListN.{getD, set};
 ghost use Rattle.market.specs.Method.{slotFor};
-ghost use Rattle.method.specs.View.{hoursHeld, agreedAt};
+ghost use Rattle.method.specs.View.{hoursHeld, agreedAt, topPrice};
 ghost use Rattle.method.specs.LateHours.{lateSlot};
 ghost use Rattle.method.specs.Changes.{Full, MoreHeld, agedPair, Aged};
 use crate::Agreed;
@@ -73,7 +73,7 @@ pub(crate) fn age(held: [[Agreed; 16]; 16], growers: usize, j: usize) -> [[Agree
 }
 
 pub(crate) fn raise_price(price: &mut [u32; 16], j: usize)
-    requires { ⌜ (j < 16) × (getD (now price) j 0 ≤ 1179631) ⌝ }
+    requires { ⌜ (j < 16) × (getD (now price) j 0 ≤ topPrice) ⌝ }
     ensures { λ _. ⌜ now (price .exit) ≡ set (now (price .entry)) j (getD (now (price .entry)) j 0 + 1) ⌝ }
 {
     price[j] = price[j] + 1;

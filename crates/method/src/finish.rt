@@ -4,7 +4,7 @@ ghost use Prim.Native.Nat.{ℕ, _<_, _≤_};
 ghost use lib.ListN.{length};
 ghost use Rattle.market.specs.declared.Deal.{Deal};
 ghost use Rattle.market.specs.Method.{hoursOf};
-ghost use Rattle.method.specs.View.{line, agreedIn, agreedAt, noHours, heldIn};
+ghost use Rattle.method.specs.View.{line, agreedIn, agreedAt, noHours, heldIn, topPrice};
 ghost use Rattle.method.specs.Changes.{Full};
 ghost use Rattle.method.specs.Result.{payAt, Flown};
 use crate::Agreed;
@@ -37,7 +37,7 @@ pub(crate) fn no_hours() -> [[Agreed; 16]; 16]
 
 // The pay for a free-deal hour, 0 where the pair has none.
 fn pay_for(hours: u16, price: u32, shift: u32) -> u16
-    requires { ⌜ (price ≤ 1179631) × (shift ≤ 16) ⌝ }
+    requires { ⌜ (price ≤ topPrice) × (shift ≤ 16) ⌝ }
     ensures { λ r. ⌜ r ≡ payAt price shift hours ⌝ }
 {
     if 0 < hours {
@@ -57,7 +57,7 @@ pub(crate) fn write_flown(
     tariff_hours: &mut [[u16; 16]; 16],
     free_hours: &mut [[u16; 16]; 16],
 ) -> [[u16; 16]; 16]
-    requires { ⌜ (growers ≤ 16) × (pilots ≤ 16) × (shift ≤ 16) × ((j : ℕ) → j < pilots → line price j ≤ 1179631) ⌝ }
+    requires { ⌜ (growers ≤ 16) × (pilots ≤ 16) × (shift ≤ 16) × ((j : ℕ) → j < pilots → line price j ≤ topPrice) ⌝ }
     requires { ⌜ ((d : Deal) (i j : ℕ) → i < growers → j < pilots → hoursOf (heldIn held) d i j < 65536) ⌝ }
     ensures { λ r. ⌜ Flown held price shift growers pilots (now («tariff_hours» .entry)) (now («free_hours» .entry))
         (now («tariff_hours» .exit)) (now («free_hours» .exit)) r ⌝ }

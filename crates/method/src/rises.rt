@@ -1,16 +1,16 @@
 // How a pilot's price rises: with the prices of the pilots tied to him, as far as all bear it, or else alone and by one.
 ghost use Prim.Native.Nat.{ℕ, _+_, _<_, _≤_};
 ghost use mathlib.Core.List.{[]};
-ghost use Rattle.method.specs.View.{line, ticket, agreedAt};
+ghost use Rattle.method.specs.View.{line, ticket, agreedAt, topPrice};
 ghost use Rattle.method.specs.Changes.{Full};
 ghost use Rattle.method.specs.Rises.{Rises};
 use crate::Agreed;
 use crate::Terms;
 use crate::changes::age;
 use crate::changes::raise_price;
-use crate::growers_bear::row_slack;
+use crate::grower_limits::row_slack;
 use crate::jumps::raise_marked;
-use crate::pilots_bear::pilots_slack;
+use crate::pilot_limits::pilots_slack;
 use crate::requests::following;
 use crate::ties::only;
 use crate::ties::same_marks;
@@ -29,7 +29,7 @@ pub(crate) fn rise(
     j: usize,
 ) -> [[Agreed; 16]; 16]
     requires { ⌜ Full held × (growers ≤ 16) × (pilots ≤ 16) × (j < pilots) ⌝ }
-    requires { ⌜ ((l : ℕ) → l < pilots → line (now price) l ≤ 1179631) ⌝ }
+    requires { ⌜ ((l : ℕ) → l < pilots → line (now price) l ≤ topPrice) ⌝ }
     requires { ⌜ ((i : ℕ) → i < growers → agreedAt held i j .«old_free» + agreedAt held i j .«new_free» < 65536) ⌝ }
     ensures { λ r. ⌜ Rises (ticket growers pilots [] [] terms) (line «free») (now (price .entry)) held (now (price .exit)) r j ⌝ }
 {

@@ -2,7 +2,7 @@
 ghost use Prim.Native.Nat.{_<_, _≤_};
 use crate::Agreed;
 use crate::Terms;
-use crate::growers_bear::least_worth;
+use crate::grower_limits::least_worth;
 use crate::numbers::less;
 use crate::offers::free_chance;
 

@@ -1,16 +1,16 @@
 // A ticket's numbers and a settlement's as rows and squares, one for each quantity; and room for them. Each function answers on every
 // input, as far as a square reaches.
 mod lists;
-mod tables;
+mod quantities;
 
 pub use lists::settlement_list;
 pub use lists::ticket_list;
-pub use tables::fill;
-pub use tables::grower_hours;
-pub use tables::growers;
-pub use tables::pilot_hours;
-pub use tables::pilots;
-pub use tables::square;
+pub use quantities::fill;
+pub use quantities::grower_hours;
+pub use quantities::growers;
+pub use quantities::pilot_hours;
+pub use quantities::pilots;
+pub use quantities::square;
 
 // What a square of growers by pilots holds: five quantities of a ticket, three of a settlement.
 pub enum Quantity {
