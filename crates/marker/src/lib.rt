@@ -33,8 +33,8 @@ fn mark_against(ticket: &[u16], settlement: &[u8]) -> Verdict
     ensures { λ r. ⌜ r ≡ settlementMarked (now (ticket .entry))
         (settlementRead (growersOf (now (ticket .entry))) (pilotsOf (now (ticket .entry))) (now (settlement .entry))) ⌝ }
 {
-    let growers = grid::index(grid::entry(ticket, 1));
-    let pilots = grid::index(grid::entry(ticket, 2));
+    let growers = tables::growers(ticket);
+    let pilots = tables::pilots(ticket);
     let mut numbers = tables::settlement_list();
     let reply = reader::read_settlement(settlement, growers, pilots, &mut numbers);
     match reply {
