@@ -9,6 +9,8 @@ use native.Mathlib.Omega.{arith}
 use lib.ListN.{length, take}
 use Rattle.grid.proofs.Cases.{never}
 use Rattle.market.specs.Market as market
+use Rattle.market.specs.WithoutStandby.{NoStandby, SoundWithoutStandby}
+use Rattle.market.proofs.WithoutStandby.{sound-without-standby-iff}
 use Rattle.reader.specs.declared.Reply.{Reply}
 use Rattle.reader.specs.Walk.{Outcome, Refusal, Numbers}
 use Rattle.reader.specs.Answer.{unpacked, settlementRead, reply, kept}
@@ -19,10 +21,14 @@ use Rattle.tables.specs.View.{growersOf, pilotsOf, ticketOf, settlementOf}
 use Rattle.verdicts.specs.Values.{verdictNumber}
 use Rattle.marker.specs.Verdict.{judged}
 use Rattle.marker.specs.Marked.{settlementMarked, ticketMarked, marked, SoundFiles}
-use Rattle.marker.proofs.Soundness.{NoStandby, sound-exactly, sound-number}
+use Rattle.marker.proofs.Soundness.{sound-exactly, sound-number}
 
 no-standby : (xs : List ℕ) → NoStandby (ticketOf xs)
 no-standby xs = record { grower = λ i. refl; pilot = λ j. refl }
+
+-- A file has no standby, so that a settlement of its ticket is sound exactly by the words of docs/FORMAT.md.
+pub files-without-standby : (xs : List ℕ) (x : market.Settlement) → market.Sound (ticketOf xs) x ↔ SoundWithoutStandby (ticketOf xs) x
+files-without-standby xs x = sound-without-standby-iff (ticketOf xs) x (no-standby xs)
 
 settlement-sound : (t s xs : List ℕ) (o : Outcome) → unpacked t ≡ Numbers xs → settlementRead (growersOf xs) (pilotsOf xs) s ≡ o →
     verdictNumber (settlementMarked xs o) ≡ 1 → SoundFiles t s

@@ -13,7 +13,9 @@ use Rattle.market.specs.declared.Deal.{Deal}
 use Rattle.market.specs.declared.Deal.the-variants.{Tariff, Free}
 use Rattle.market.specs.Market as market
 use Rattle.market.specs.Market.{Ticket, Settlement, Cheapest, Feasible, SpareOfGrower, SpareOfPilot}
+use Rattle.market.specs.WithoutStandby.{NoStandby}
 use Rattle.market.proofs.Gains.{always-welcome}
+use Rattle.market.proofs.WithoutStandby.{at-least-standby}
 use Rattle.verdicts.specs.declared.Verdict.{Verdict}
 use Rattle.verdicts.specs.declared.Verdict.the-variants.{Sound, TariffOverCap, FreeOverCap, WrongPay, GrowerOverHours, PilotOverHours}
 use Rattle.verdicts.specs.declared.Verdict.the-variants.{Idle, Blocks}
@@ -44,11 +46,6 @@ refuted false P f no-p = refl
 -- and the other way: what would make it hold does not hold
 denied : (b : Bool) (P : Type 0) → (P → b ≡ true) → b ≡ false → ¬ P
 denied b P f h p = true≢false (sym (f p) ∙ h)
-
--- nobody asks anything for a free hour
-pub record NoStandby (t : Ticket) : Type 0 where
-  pub grower : (i : ℕ) → t .growerStandby i ≡ 0
-  pub pilot : (j : ℕ) → t .pilotStandby j ≡ 0
 
 module _ (t : Ticket) (x : Settlement) where
   -- the tests of the cheapest spares of both
@@ -188,7 +185,7 @@ module _ (t : Ticket) (x : Settlement) where
   passed-iff free = (
     λ p. record {
       feasible = feasible-iff .0 (p .faultless);
-      standby = record { grower = λ d i j hi hj h. omega (arith, free .grower i); pilot = λ d i j hi hj h. omega (arith, free .pilot j) };
+      standby = at-least-standby t x free;
       nothingIdle = λ d i j hi hj. denied _ _ (idle-iff free d i j .1)
           (either-false (idle t x d i j) (blocks t x d i j) (p .deal d i j hi hj) .0);
       nothingBlocks = λ d i j hi hj. denied _ _ (blocks-iff d i j .1)

@@ -1,5 +1,6 @@
 pub mod Finding
 pub mod Gains
+pub mod WithoutStandby
 pub mod Examples
 pub mod Same
 pub mod Deals

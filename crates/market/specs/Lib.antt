@@ -1,4 +1,5 @@
 pub mod Market
+pub mod WithoutStandby
 pub mod Examples
 pub mod Same
 pub mod Tables
