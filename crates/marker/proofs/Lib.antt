@@ -1,4 +1,5 @@
 pub mod Examples
+pub mod WrongMarkers
 pub mod DealNumbers
 pub mod PartyRows
 pub mod Walks

@@ -1,4 +1,5 @@
 pub mod Verdict
 pub mod Marked
 pub mod Examples
+pub mod Traps
 pub mod Tables
