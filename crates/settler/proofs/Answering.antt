@@ -3,9 +3,11 @@
 use Prim.Native.Nat.{ℕ, _+_, _*_, _≤_, _<_}
 use mathlib.Core.Path.{_≡_, refl, ap, _∙_}
 use mathlib.Core.List.{List, _++_}
+use mathlib.Core.Logic.{⊎-elim}
 use native.Mathlib.Omega.{arith}
 use lib.ListN.{length, take, drop}
 use lib.Seq.{take-at, drop-append-seam}
+use Rattle.grid.proofs.Cases.{lt-or-le, never}
 use Rattle.reader.specs.declared.Reply.{Reply}
 use Rattle.reader.specs.Refusals.{noRoom}
 use Rattle.reader.specs.Walk.{Numbers}
@@ -82,3 +84,16 @@ refused-settles s zeros lent w long e =
 pub answers-settle : (s list lent after : List ℕ) (r : Reply) → unpacked s ≡ Numbers list → Answers s list lent after r →
     Settled s lent after r
 answers-settle s list lent after r e a = rw e a
+
+-- What an answer to a ticket that passes its checks says: no refusal where there is room, and a length is that of a settlement.
+module _ (ticket xs lent after : List ℕ) (e : unpacked ticket ≡ Numbers xs) where
+  pub not-refused : (why : ℕ) → roomFor xs ≤ length lent → ¬ Settled ticket lent after (Reply.Refused why)
+  not-refused why room s = let a = rw e at s in let f = a .settled room .1 .reply in never cc
+
+  pub done-settled : (count : ℕ) → Settled ticket lent after (Reply.Done count) → SettledIn ticket xs lent after count
+  done-settled count s =
+      let a = rw e at s in
+      ⊎-elim
+      (λ few. let f = a .short few .0 .reply in never cc)
+      (λ room. let z = a .settled room in let f = z .1 .reply in let same : z .0 ≡ count = cc in rw same at (z .2))
+      (lt-or-le (length lent) (roomFor xs))

@@ -12,7 +12,6 @@ use Rattle.grid.proofs.Places.{prod-small}
 use Rattle.reader.specs.declared.Reply.{Reply}
 use Rattle.reader.specs.Refusals.{noRoom}
 use Rattle.reader.specs.Walk.{Outcome, Refusal, Numbers}
-use Rattle.reader.specs.Values.{Counts}
 use Rattle.reader.specs.Answer.{unpacked, settlementRead, reply}
 use Rattle.reader.proofs.Telling.{refuses, counts}
 use Rattle.reader.proofs.Facts.{unpacked-shape, settlement-shape, settlement-few, reply-with-room, reply-refused, written-front}
@@ -22,6 +21,7 @@ use Rattle.marker.specs.Verdict.{judged}
 use Rattle.verdicts.specs.Values.{verdictCount}
 use Rattle.marker.specs.Marked.{marked}
 use Rattle.settler.specs.Settled.{SettledIn, Settled}
+use Rattle.settler.proofs.Answering.{not-refused, done-settled}
 use Rattle.sheets.specs.Writing.{pageBytes, Wrote}
 use Rattle.sheets.specs.Sheet.{headOf, linesOf, lastOf, sheetText, refusedText}
 use Rattle.sheets.specs.Sheeted.{IsSheet, roomForSheet, SheetIn, Sheeted}
@@ -90,21 +90,15 @@ module _ {ticket xs file : List ℕ} (f : SoundFile ticket xs file) (n m : ℕ) 
 -- The ticket is settled: no refusal, and what was written is the file of a sound settlement.
 module _ (ticket xs lent after : List ℕ) (r : Reply) (e : unpacked ticket ≡ Numbers xs) (long : length lent ≡ 1027)
     (s : Settled ticket lent after r) where
-  settles : (count : ℕ) × Counts r count × SettledIn ticket xs lent after count
-  settles =
-      let a = rw e at s in
-      let h = unpacked-shape ticket xs e in
-      a .settled (omega (arith, long, prod-small (growersOf xs) (pilotsOf xs) (h .growers .1) (h .pilots .1)))
-
   pub settle-not-refused : {A : Type 0} (w : ℕ) → r ≡ Reply.Refused w → A
-  settle-not-refused w f = let d = settles .1 .reply in never cc
+  settle-not-refused w f =
+      let h = unpacked-shape ticket xs e in
+      absurd (not-refused ticket xs lent after e w
+      (omega (arith, long, prod-small (growersOf xs) (pilotsOf xs) (h .growers .1) (h .pilots .1))) (rw f at s))
 
   module _ (count : ℕ) (f : r ≡ Reply.Done count) where
-    same-count : settles .0 ≡ count
-    same-count = let d = settles .1 .reply in cc
-
     inside : SettledIn ticket xs lent after count
-    inside = rw same-count at (settles .2)
+    inside = done-settled ticket xs lent after e count (rw f at s)
 
     pub settlement-sound : SoundFile ticket xs (take count after)
     settlement-sound = record {
