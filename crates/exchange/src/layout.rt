@@ -55,8 +55,8 @@ fn pairs(
 }
 
 pub(crate) fn ticket(numbers: &[u16]) {
-    let growers = grid::index(grid::entry(numbers, 1));
-    let pilots = grid::index(grid::entry(numbers, 2));
+    let growers = tables::growers(numbers);
+    let pilots = tables::pilots(numbers);
     counted(STDOUT_FILENO, b"growers ", growers as u64);
     counted(STDOUT_FILENO, b" pilots ", pilots as u64);
     end_line(STDOUT_FILENO);

@@ -1,14 +1,11 @@
 -- Filling a square row by row in two loops, for any values and whatever it held before: the invariant `Part` of both, and its steps.
 use mathlib.Core.Path.{_≡_, refl, sym, _∙_}
 use mathlib.Core.Logic.{inl, inr, ⊎-elim}
-use mathlib.Core.List.{List, []}
 use Prim.Native.Nat.{ℕ, _+_, _<_, _≤_}
 use native.Mathlib.Omega.{arith}
-use lib.ListN.{length, getD, set, length-set}
-use lib.Seq.{getD-set-same, getD-set-other}
 use Rattle.grid.specs.Grid.{Grid, at, put, Square}
 use Rattle.grid.specs.Fill.{Filled, FilledOver}
-use Rattle.grid.proofs.Cases.{by-index, by-cell, lt-or-le, eq-or-ne}
+use Rattle.grid.proofs.Cases.{by-cell, lt-or-le, eq-or-ne}
 use Rattle.grid.proofs.Squares.{put-square, at-put-same, at-put-other, square-ext}
 
 -- the rows before i, and j cells of row i

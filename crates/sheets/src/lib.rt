@@ -52,8 +52,8 @@ fn print_file(page: &mut [u8; 8216], ticket: &[u8], numbers: &[u16], file: &[u8]
     requires { ⌜ SoundFile (now ticket) (now numbers) (now file) ⌝ }
     ensures { λ r. ⌜ Printed (Numbers (now (numbers .entry))) (now (page .entry)) (now (page .exit)) r ⌝ }
 {
-    let growers = grid::index(grid::entry(numbers, 1));
-    let pilots = grid::index(grid::entry(numbers, 2));
+    let growers = tables::growers(numbers);
+    let pilots = tables::pilots(numbers);
     let mut list = tables::settlement_list();
     let reply = reader::read_settlement(file, growers, pilots, &mut list);
     match reply {
@@ -108,8 +108,8 @@ fn sheet_settled(ticket: &[u8], numbers: &[u16], text: &mut [u8]) -> Reply
     requires { ⌜ unpacked (now ticket) ≡ Numbers (now numbers) ⌝ }
     ensures { λ r. ⌜ Sheeted (Numbers (now (numbers .entry))) (now (text .entry)) (now (text .exit)) r ⌝ }
 {
-    let growers = grid::index(grid::entry(numbers, 1));
-    let pilots = grid::index(grid::entry(numbers, 2));
+    let growers = tables::growers(numbers);
+    let pilots = tables::pilots(numbers);
     let pairs = grid::pairs(growers, pilots);
     if text.len() < 24 + 32 * pairs {
         return Reply::Refused { why: NO_ROOM };

@@ -44,8 +44,8 @@ fn lines_between(page: &mut [u8; 8216], at: usize, ticket: &[u16], settlement: &
     pair_lines(
         page,
         at,
-        grid::index(grid::entry(ticket, 1)),
-        grid::index(grid::entry(ticket, 2)),
+        tables::growers(ticket),
+        tables::pilots(ticket),
         tables::square(settlement, Quantity::TariffHours),
         tables::square(ticket, Quantity::TariffGain),
         tables::square(ticket, Quantity::TariffPay),

@@ -1,6 +1,6 @@
 // Lists of numbers as squares and rows.
 ghost use mathlib.Core.Path.{_≡_};
-ghost use Prim.Native.Nat.{_+_, _*_, _<_, _≤_, min};
+ghost use Prim.Native.Nat.{_+_, _*_, _<_, min};
 ghost use lib.ListN.{getD};
 ghost use Rattle.grid.specs.Fill.{FilledRow};
 ghost use Rattle.tables.specs.View.{growersOf, pilotsOf, pairPlace, placeOf, quantityOf, growerHoursOf, pilotHoursOf, Holds, HoldsOver};

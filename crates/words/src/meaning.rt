@@ -139,8 +139,8 @@ fn gains_of_files(ticket: &[u8], settlement: &[u8], i: usize, j: usize, deal: De
         return;
     };
     let numbers = grid::front(&terms, count);
-    let growers = grid::index(grid::entry(numbers, 1));
-    let pilots = grid::index(grid::entry(numbers, 2));
+    let growers = tables::growers(numbers);
+    let pilots = tables::pilots(numbers);
     let mut agreed = tables::settlement_list();
     let Reply::Done { count: agreements } = reader::read_settlement(
         settlement,

@@ -1,6 +1,7 @@
-// The cheapest spare of a party for a deal: a free hour, which is worth nothing, or an hour of another deal.
+// Which spare of a party for a deal is the cheapest: a free hour, which is worth nothing, or an hour of another deal.
 use market::Deal;
 use tables::Quantity;
+use verdicts::cheapest_spare;
 
 pub(crate) enum Spare {
     Nothing,
@@ -60,45 +61,57 @@ fn is_tariff(deal: Deal) -> bool {
     }
 }
 
-// The cheaper of a spare and hours of a deal, if there are any.
-fn cheaper(best: Spare, hours: u16, partner: usize, deal: Deal, worth: u16) -> Spare {
-    if hours == 0 {
-        return best;
+// The first hour with a partner that is worth so much.
+fn hour_worth(
+    worth: u16,
+    tariff: [u16; 16],
+    free: [u16; 16],
+    earned: [u16; 16],
+    share: [u16; 16],
+) -> Spare {
+    for l in 0..16usize {
+        if 0 < tariff[l] && earned[l] == worth {
+            return Spare::Hour {
+                partner: l,
+                deal: Deal::Tariff,
+                worth,
+            };
+        }
+        if 0 < free[l] && share[l] == worth {
+            return Spare::Hour {
+                partner: l,
+                deal: Deal::Free,
+                worth,
+            };
+        }
     }
-    let hour = Spare::Hour {
-        partner,
-        deal,
-        worth,
-    };
-    match best {
-        Spare::Nothing => hour,
-        Spare::FreeHour => best,
-        Spare::Hour {
-            partner: _,
-            deal: _,
-            worth: least,
-        } => if worth < least { hour } else { best },
-    }
+    Spare::Nothing
 }
 
-// The cheapest of a party's free hours and his hours with each partner.
+// Which spare for a deal with a partner is the cheapest, of a party who has a free hour or has none.
 fn cheapest(
     unused: bool,
     tariff: [u16; 16],
     free: [u16; 16],
     earned: [u16; 16],
     share: [u16; 16],
+    deal: Deal,
+    partner: usize,
 ) -> Spare {
-    let mut best = if unused {
-        Spare::FreeHour
-    } else {
-        Spare::Nothing
-    };
-    for l in 0..16usize {
-        let by_tariff = cheaper(best, tariff[l], l, Deal::Tariff, earned[l]);
-        best = cheaper(by_tariff, free[l], l, Deal::Free, share[l]);
+    if unused {
+        return Spare::FreeHour;
     }
-    best
+    let found = cheapest_spare(0, tariff, free, earned, share, 16, deal, partner);
+    match found {
+        verdicts::Spare::Nothing => Spare::Nothing,
+        verdicts::Spare::Worth { worth } => hour_worth(
+            worth,
+            without(tariff, is_tariff(deal), partner),
+            without(free, !is_tariff(deal), partner),
+            earned,
+            share,
+        ),
+    }
 }
 
 // The cheapest spare of grower i for his deal with pilot j.
@@ -116,10 +129,12 @@ pub(crate) fn of_grower(
     let pay = row(tables::square(settlement, Quantity::Pay), i);
     cheapest(
         grid::row_sum(by_free, i, 16) < after_tariff,
-        without(row(by_tariff, i), is_tariff(deal), j),
-        without(row(by_free, i), !is_tariff(deal), j),
+        row(by_tariff, i),
+        row(by_free, i),
         row(tables::square(ticket, Quantity::TariffGain), i),
         less(row(tables::square(ticket, Quantity::JointGain), i), pay),
+        deal,
+        j,
     )
 }
 
@@ -137,9 +152,11 @@ pub(crate) fn of_pilot(
     let after_tariff = left(hours, grid::col_sum(by_tariff, j, 16));
     cheapest(
         grid::col_sum(by_free, j, 16) < after_tariff,
-        without(column(by_tariff, j), is_tariff(deal), i),
-        without(column(by_free, j), !is_tariff(deal), i),
+        column(by_tariff, j),
+        column(by_free, j),
         column(tables::square(ticket, Quantity::TariffPay), j),
         column(tables::square(settlement, Quantity::Pay), j),
+        deal,
+        i,
     )
 }

@@ -6,7 +6,7 @@ use native.Mathlib.Omega.{arith}
 use borrow.Author.Tests.{le-leb, lt-leb}
 use Rattle.grid.specs.First.{none}
 use Rattle.grid.proofs.FirstPlaces.{none-zero, none-more, none-le, first-is}
-use Rattle.euros.specs.Euros.{noneWhole, shiftOf}
+use Rattle.euros.specs.Euros.{noneWhole}
 use borrow.Author.Needs.{needs}
 use Rattle.euros.proofs.rounding.Statement.{statement}
 use Rattle.euros.proofs.rounding.Tie as tie

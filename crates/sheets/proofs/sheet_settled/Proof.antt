@@ -1,6 +1,6 @@
 -- `sheets::sheet_settled` meets its contract: too little room is refused, else the printed page is copied.
 -- Assumes nothing.
-use mathlib.Core.Path.{_≡_, _∙_}
+use mathlib.Core.Path.{_≡_}
 use Prim.Native.Nat.{_*_, _≤_}
 use native.Mathlib.Omega.{arith}
 use borrow.Author.Needs.{needs}
@@ -14,26 +14,25 @@ use Rattle.sheets.proofs.sheet_settled.Statement.{statement}
 use Rattle.sheets.proofs.sheet_settled.Tie as tie
 
 -- the ticket's growers and pilots
-growers-are : (c : tie.After-index2) →
-    c .before .before .index .result ≡ growersOf (c .before .before .before .before .before .before .before .args .numbers .now)
-growers-are c = c .before .before .index .ensures .0 ∙ c .before .before .before .entry .ensures
+growers-are : (c : tie.After-pilots) → c .before .growers .result ≡ growersOf (c .before .before .before .before .before .args .numbers .now)
+growers-are c = c .before .growers .ensures .0
 
-pilots-are : (c : tie.After-index2) → c .index2 .result ≡ pilotsOf (c .before .before .before .before .before .before .before .args .numbers .now)
-pilots-are c = c .index2 .ensures .0 ∙ c .before .entry2 .ensures
+pilots-are : (c : tie.After-pilots) → c .pilots .result ≡ pilotsOf (c .before .before .before .before .before .args .numbers .now)
+pilots-are c = c .pilots .ensures .0
 
 -- a ticket has at most 16 of each, so all pairs are counted
 all : (c : tie.After-pairs) →
     c .pairs .result
-    ≡ growersOf (c .before .before .before .before .before .before .before .before .args .numbers .now) * pilotsOf (c .before .before .before .before .before .before .before .before .args .numbers .now)
+    ≡ growersOf (c .before .before .before .before .before .before .args .numbers .now) * pilotsOf (c .before .before .before .before .before .before .args .numbers .now)
 all c =
     let q = c .before in
-    let s = unpacked-shape (q .before .before .before .before .before .before .before .args .ticket .now) _ (q .before .before .before .before .before .before .before .pre) in
+    let s = unpacked-shape (q .before .before .before .before .before .args .ticket .now) _ (q .before .before .before .before .before .pre) in
     let counted = c .pairs .ensures .1 (omega (arith, growers-are q, s .growers)) (omega (arith, pilots-are q, s .pilots)) in
     cc (counted, growers-are q, pilots-are q)
 
 room : (c : tie.Else1) →
-    roomForSheet (Numbers (c .before .before .before .before .before .before .before .before .before .args .numbers .now))
-    ≤ length (c .before .before .before .before .before .before .before .before .before .args .text .now)
+    roomForSheet (Numbers (c .before .before .before .before .before .before .before .args .numbers .now))
+    ≤ length (c .before .before .before .before .before .before .before .args .text .now)
 room c = omega (arith, all (c .before), c .if1 .left)
 
 returns : tie.Need-returns
@@ -44,13 +43,13 @@ slice-aggregate-copy c = page-long (c .before .print-settled .ensures) (c .befor
 
 copy-requires : tie.Need-copy-requires
 copy-requires c κs =
-    let s = c .before .before .before .before .before .before .before .before .before .before .before .before .before .before in
+    let s = c .before .before .before .before .before .before .before .before .before .before .before .before in
     end-within (c .before .before .print-settled .ensures) (c .before .before .before .before .blank .ensures) (room-in-page (s .args .ticket .now) _ (s .pre)) _
     (room (c .before .before .before .before .before))
 
 returns-2 : tie.Need-returns-2
 returns-2 c =
-    let s = c .before .before .before .before .before .before .before .before .before .before .before .before .before .before .before .before .before in
+    let s = c .before .before .before .before .before .before .before .before .before .before .before .before .before .before .before in
     sheeted-copied (c .before .before .before .before .before .print-settled .ensures) (c .before .before .before .before .before .before .before .blank .ensures)
     (room-in-page (s .args .ticket .now) _ (s .pre)) _ _ (room (c .before .before .before .before .before .before .before .before))
     (c .before .before .copy .ensures)
@@ -59,8 +58,6 @@ pub sheet-settled-spec : {M : Type 1} → statement M
 sheet-settled-spec =
     tie.close
     (tie.spec
-    (λ c κs. search needs)
-    (λ c κs. search needs)
     (λ c κs. search needs)
     (λ c κs. search needs)
     (λ c κs. search needs)

@@ -40,6 +40,19 @@ Inv-loop growers pilots price grower-hours terms held₀ free i k j deal most sp
 abbrev μ-loop : tie.MeasureT-loop
 μ-loop growers pilots price grower-hours terms held₀ free i k j deal most spare giver₀ held giver = growers - giver
 
+-- places of a turn, each by a later one: its start; what the grower asked for; the search for late hours; late hours found
+abbrev turn-of : tie.After-asked Inv-loop μ-loop Inv-turns μ-turns → tie.In-turns Inv-loop μ-loop Inv-turns μ-turns
+turn-of c = c .before .before .before .before .before .before
+
+abbrev asked-in : tie.At-loop Inv-loop μ-loop Inv-turns μ-turns → tie.After-asked Inv-loop μ-loop Inv-turns μ-turns
+asked-in c = c .before .before .before
+
+abbrev search-of : tie.After-late Inv-loop μ-loop Inv-turns μ-turns → tie.At-loop Inv-loop μ-loop Inv-turns μ-turns
+search-of c = c .before .before .before .before .before .before .before
+
+abbrev late-of : tie.After-more2 Inv-loop μ-loop Inv-turns μ-turns → tie.After-late Inv-loop μ-loop Inv-turns μ-turns
+late-of c = c .before .before .before .before
+
 -- the grower who is asked
 grower : (c : tie.In-turns Inv-loop μ-loop Inv-turns μ-turns) → c .before .turns .i < c .before .before .before .args .growers
 grower c = c .before .turns .inv .start (omega arith)
@@ -57,7 +70,7 @@ asks c = let turn = c .before .before .before .before in
     let l = turn .before .turns in
     asks-in (a .growers) (a .pilots) (turn .before .turns .i) (a .t3) (a .pilot-hours) (a .t5) (l .price) (l .held) (grower turn) (c .request .result) (c .request .ensures)
 
-want : (c : tie.After-asked Inv-loop μ-loop Inv-turns μ-turns) → let turn = c .before .before .before .before .before .before in
+want : (c : tie.After-asked Inv-loop μ-loop Inv-turns μ-turns) → let turn = turn-of c in
     let a = turn .before .before .before .args in
     let l = turn .before .turns in
     let g = c .asked .given .0 in
@@ -65,29 +78,29 @@ want : (c : tie.After-asked Inv-loop μ-loop Inv-turns μ-turns) → let turn = 
 want c = rw (c .asked .given .1) at (asks (c .before .before))
 
 pilot-small : (c : tie.After-asked Inv-loop μ-loop Inv-turns μ-turns) → c .asked .given .0 .0 < 16
-pilot-small c = let turn = c .before .before .before .before .before .before in
+pilot-small c = let turn = turn-of c in
     omega (arith, want c .0 .pilot, turn .before .before .before .pre .0 .pilots)
 
 -- the turn, with free hours
 added : (c : tie.After-more Inv-loop μ-loop Inv-turns μ-turns) → let ask = c .before .before .before .before .before in
-    let turn = ask .before .before .before .before .before .before in
+    let turn = turn-of ask in
     let l = turn .before .turns in
     let g = ask .asked .given .0 in
     Full (putCell (l .held) (turn .before .turns .i) (g .0) (c .more .result)) ×
     Added (heldIn (l .held)) (heldIn (putCell (l .held) (turn .before .turns .i) (g .0) (c .more .result))) (slotFor (g .1 .0)) (turn .before .turns .i) (g .0) (c .before .before .fewest .result)
 added c = let ask = c .before .before .before .before .before in
-    let turn = ask .before .before .before .before .before .before in
+    let turn = turn-of ask in
     let l = turn .before .turns in
     put-more _ (l .inv .live .full) _ _ _ (grower-small turn) (pilot-small ask) _ _ _ refl (c .more .ensures)
 
 turned-add : (c : tie.After-more Inv-loop μ-loop Inv-turns μ-turns) → let ask = c .before .before .before .before .before in
-    let turn = ask .before .before .before .before .before .before in
+    let turn = turn-of ask in
     let a = turn .before .before .before .args in
     let l = turn .before .turns in
     let g = ask .asked .given .0 in
     Turned (ticket (a .growers) (a .pilots) (a .t3) (a .pilot-hours) (a .t5)) (l .price) (l .held) (l .price) (putCell (l .held) (turn .before .turns .i) (g .0) (c .more .result))
 turned-add c = let ask = c .before .before .before .before .before in
-    let turn = ask .before .before .before .before .before .before in
+    let turn = turn-of ask in
     let l = turn .before .turns in
     let w = want ask in
     let e = c .before .before .fewest .ensures in
@@ -112,17 +125,17 @@ still-want c = let ask = c .before .before .before in
     rw (c .loop .inv .0) (want ask)
 
 -- late hours of the pilot
-late : (c : tie.After-late Inv-loop μ-loop Inv-turns μ-turns) → let search-at = c .before .before .before .before .before .before .before in
-    let ask = search-at .before .before .before in
-    let turn = ask .before .before .before .before .before .before in
+late : (c : tie.After-late Inv-loop μ-loop Inv-turns μ-turns) → let search-at = search-of c in
+    let ask = asked-in search-at in
+    let turn = turn-of ask in
     let a = turn .before .before .before .args in
     let l = turn .before .turns in
     let g = ask .asked .given .0 in
     let h = c .late .given .0 in
     HasLate (ticket (a .growers) (a .pilots) (a .t3) (a .pilot-hours) (a .t5)) (line (l .price)) (heldIn (search-at .loop .held)) (h .0) (search-at .loop .giver) (g .0) (h .1 .0)
-late c = let search-at = c .before .before .before .before .before .before .before in
-    let ask = search-at .before .before .before in
-    let turn = ask .before .before .before .before .before .before in
+late c = let search-at = search-of c in
+    let ask = asked-in search-at in
+    let turn = turn-of ask in
     let a = turn .before .before .before .args in
     let l = turn .before .turns in
     let h = c .late .given .0 in
@@ -131,34 +144,34 @@ late c = let search-at = c .before .before .before .before .before .before .befo
 
 giver-small : (c : tie.In-loop Inv-loop μ-loop Inv-turns μ-turns) → let search-at = c .before in
     search-at .loop .giver < 16
-giver-small c = let turn = c .before .before .before .before .before .before .before .before .before .before in
+giver-small c = let turn = turn-of (asked-in (c .before)) in
     omega (arith, c .loop-test .taken, turn .before .before .before .pre .0 .growers)
 
 -- the turn, with late hours given up
-put : (c : tie.After-more2 Inv-loop μ-loop Inv-turns μ-turns) → let search-at = c .before .before .before .before .before .before .before .before .before .before .before in
-    let ask = search-at .before .before .before in
-    let turn = ask .before .before .before .before .before .before in
+put : (c : tie.After-more2 Inv-loop μ-loop Inv-turns μ-turns) → let search-at = search-of (late-of c) in
+    let ask = asked-in search-at in
+    let turn = turn-of ask in
     let l = turn .before .turns in
     let g = ask .asked .given .0 in
     let after = putCell (search-at .loop .held) (l .i) (g .0) (c .more2 .result) in
     Full after × Added (heldIn (search-at .loop .held)) (heldIn after) (slotFor (g .1 .0)) (l .i) (g .0) (c .before .before .fewest2 .result)
-put c = let search-at = c .before .before .before .before .before .before .before .before .before .before .before in
-    let ask = search-at .before .before .before in
-    let turn = ask .before .before .before .before .before .before in
+put c = let search-at = search-of (late-of c) in
+    let ask = asked-in search-at in
+    let turn = turn-of ask in
     put-more _ (still search-at .live .full) _ _ _ (grower-small turn) (pilot-small ask) _ _ _ refl (c .more2 .ensures)
 
-swapped : (c : tie.After-fewer Inv-loop μ-loop Inv-turns μ-turns) → let search-at = c .before .before .before .before .before .before .before .before .before .before .before .before .before in
-    let ask = search-at .before .before .before in
-    let turn = ask .before .before .before .before .before .before in
+swapped : (c : tie.After-fewer Inv-loop μ-loop Inv-turns μ-turns) → let search-at = search-of (late-of (c .before .before)) in
+    let ask = asked-in search-at in
+    let turn = turn-of ask in
     let a = turn .before .before .before .args in
     let l = turn .before .turns in
     let g = ask .asked .given .0 in
     let t = ticket (a .growers) (a .pilots) (a .t3) (a .pilot-hours) (a .t5) in
     let after = putCell (putCell (search-at .loop .held) (l .i) (g .0) (c .before .before .more2 .result)) (search-at .loop .giver) (g .0) (c .fewer .result) in
     Turned t (l .price) (search-at .loop .held) (l .price) after × FreeHours t after (l .free)
-swapped c = let search-at = c .before .before .before .before .before .before .before .before .before .before .before .before .before in
-    let ask = search-at .before .before .before in
-    let turn = ask .before .before .before .before .before .before in
+swapped c = let search-at = search-of (late-of (c .before .before)) in
+    let ask = asked-in search-at in
+    let turn = turn-of ask in
     let s = still search-at in
     let w = still-want search-at in
     let d = ask .asked .given .0 .1 .0 in
@@ -239,7 +252,7 @@ following-requires c κs = let turn = c .before .before .before .before .before 
 
 more-requires : tie.Need-more-requires Inv-loop μ-loop Inv-turns μ-turns
 more-requires c κs = let ask = c .before .before .before .before in
-    let turn = ask .before .before .before .before .before .before in
+    let turn = turn-of ask in
     let w = want ask in
     room-fits _ (turn .before .turns .held) (ask .asked .given .0 .1 .0) (turn .before .turns .i) (ask .asked .given .0 .0) (c .before .fewest .result) (turn .before .before .before .pre .0) (omega (arith, c .before .fewest .ensures .0, w .1 .room))
 
@@ -247,12 +260,12 @@ sub-free : tie.Need-sub-free Inv-loop μ-loop Inv-turns μ-turns
 sub-free c = omega (arith, c .before .before .fewest .ensures .1)
 
 turns-less-2 : tie.Need-turns-less-2 Inv-loop μ-loop Inv-turns μ-turns
-turns-less-2 c = let turn = c .before .before .before .before .before .before .before .before .before .before .before in
+turns-less-2 c = let turn = turn-of (c .before .before .before .before .before) in
     left-less _ _ _ _ _ _ (turn .before .before .before .pre .0 .growers) (turned-add c)
 
 turns-again-2 : tie.Need-turns-again-2 Inv-loop μ-loop Inv-turns μ-turns
 turns-again-2 c = let ask = c .before .before .before .before .before in
-    let turn = ask .before .before .before .before .before .before in
+    let turn = turn-of ask in
     let l = turn .before .turns in
     let w = want ask in
     work-starts _ _ _ _ _ (λ _. w .0 .grower) (turned-add c .live)
@@ -267,29 +280,29 @@ loop-again c = let search-at = c .before .before .before .before .before .before
     (v .0, omega arith, none-late-more _ _ _ _ _ (rw (v .0) at (rw (c .enum-told2 .given .1) at (c .before .before .late-here .ensures))) (v .2))
 
 more-requires-2 : tie.Need-more-requires-2 Inv-loop μ-loop Inv-turns μ-turns
-more-requires-2 c κs = let search-at = c .before .before .before .before .before .before .before .before .before .before in
-    let ask = search-at .before .before .before in
-    let turn = ask .before .before .before .before .before .before in
+more-requires-2 c κs = let search-at = search-of (c .before .before .before) in
+    let ask = asked-in search-at in
+    let turn = turn-of ask in
     let w = still-want search-at in
     room-fits _ (search-at .loop .held) (ask .asked .given .0 .1 .0) (turn .before .turns .i) (ask .asked .given .0 .0) (c .before .fewest2 .result) (turn .before .before .before .pre .0) (omega (arith, c .before .fewest2 .ensures .0, w .1 .room))
 
 fewer-requires : tie.Need-fewer-requires Inv-loop μ-loop Inv-turns μ-turns
-fewer-requires c κs = let search-at = c .before .before .before .before .before .before .before .before .before .before .before .before in
-    let ask = search-at .before .before .before in
+fewer-requires c κs = let search-at = search-of (late-of (c .before)) in
+    let ask = asked-in search-at in
     omega (arith, never-less (put (c .before) .1) (lateSlot (c .before .before .before .before .before .late .given .0 .0)) (search-at .loop .giver) (ask .asked .given .0 .0), c .before .before .before .fewest2 .ensures .1, late (c .before .before .before .before .before) .count)
 
 turns-less-3 : tie.Need-turns-less-3 Inv-loop μ-loop Inv-turns μ-turns
-turns-less-3 c = let search-at = c .before .before .before .before .before .before .before .before .before .before .before .before .before in
+turns-less-3 c = let search-at = search-of (late-of (c .before .before)) in
     left-after search-at _ _ (swapped c .0)
 
 turns-again-3 : tie.Need-turns-again-3 Inv-loop μ-loop Inv-turns μ-turns
-turns-again-3 c = let ask = c .before .before .before .before .before .before .before .before .before .before .before .before .before .before .before .before in
+turns-again-3 c = let ask = asked-in (search-of (late-of (c .before .before))) in
     let s = swapped c in
     work-starts _ _ _ _ _ (λ _. want ask .0 .grower) (s .0 .live) (s .1)
 
 rise-requires : tie.Need-rise-requires Inv-loop μ-loop Inv-turns μ-turns
 rise-requires c κs = let search-at = c .before .before in
-    let turn = search-at .before .before .before .before .before .before .before .before .before in
+    let turn = turn-of (asked-in search-at) in
     let fit = turn .before .before .before .pre .0 in
     let live = still search-at .live in
     let w = still-want search-at .0 in (
@@ -302,7 +315,7 @@ turns-less-4 c = let search-at = c .before .before .before in
     left-after search-at _ _ (risen c .0)
 
 turns-again-4 : tie.Need-turns-again-4 Inv-loop μ-loop Inv-turns μ-turns
-turns-again-4 c = let ask = c .before .before .before .before .before .before in
+turns-again-4 c = let ask = asked-in (c .before .before .before) in
     let s = risen c in
     work-starts _ _ _ _ _ (λ _. want ask .0 .grower) (s .0 .live) (s .1)
 
