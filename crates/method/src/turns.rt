@@ -44,11 +44,11 @@ pub(crate) fn run(
             continue;
         };
         k = 0;
-        let spare = free[j];
-        if 0 < spare {
-            let x = fewest(most, spare);
+        let unused = free[j];
+        if 0 < unused {
+            let x = fewest(most, unused);
             held[i][j] = more(held[i][j], deal, x);
-            free[j] = spare - x;
+            free[j] = unused - x;
             continue;
         }
         for giver in 0..growers {

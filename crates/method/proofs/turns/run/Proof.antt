@@ -35,10 +35,10 @@ abbrev μ-turns : tie.MeasureT-turns
 μ-turns growers pilots price₀ grower-hours terms held₀ pilot-hours i₀ k₀ price held free i k = left (ticket growers pilots grower-hours pilot-hours terms) price held k
 
 abbrev Inv-loop : tie.InvT-loop
-Inv-loop growers pilots price grower-hours terms held₀ free i k j deal most spare giver₀ held giver = (held ≡ held₀) × (giver ≤ growers) × NoneLate terms (line price j) held₀ j giver
+Inv-loop growers pilots price grower-hours terms held₀ free i k j deal most unused giver₀ held giver = (held ≡ held₀) × (giver ≤ growers) × NoneLate terms (line price j) held₀ j giver
 
 abbrev μ-loop : tie.MeasureT-loop
-μ-loop growers pilots price grower-hours terms held₀ free i k j deal most spare giver₀ held giver = growers - giver
+μ-loop growers pilots price grower-hours terms held₀ free i k j deal most unused giver₀ held giver = growers - giver
 
 -- places of a turn, each by a later one: its start; what the grower asked for; the search for late hours; late hours found
 abbrev turn-of : tie.After-asked Inv-loop μ-loop Inv-turns μ-turns → tie.In-turns Inv-loop μ-loop Inv-turns μ-turns
