@@ -10,7 +10,7 @@ use reader::NO_ROOM;
 use reader::Reply;
 use tables::Quantity;
 
-// Lists the numbers of a sound settlement of a ticket.
+// Lists the numbers of a sound settlement of a ticket. Its squares are filled where they stand: a square that is returned is copied.
 fn list_sound(ticket: &[u16], list: &mut [u16; 771])
     requires { ⌜ IsTicket (now ticket) × (length (now list) ≡ 771) ⌝ }
     ensures { λ _. ⌜ (length (now (list .exit)) ≡ 771) × SoundFront (now (ticket .entry)) (now (list .exit)) ⌝ }

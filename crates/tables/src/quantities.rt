@@ -55,6 +55,7 @@ fn quantity_at(list: &[u16], quantity: Quantity, i: usize, j: usize) -> u16
 }
 
 // Writes a quantity of every pair into a lent square, growers by pilots, as far as the square reaches. Its other cells stay as they are.
+// The copy only tells the proof that a square is lent.
 pub fn fill(list: &[u16], quantity: Quantity, into: &mut [[u16; 16]; 16])
     ensures { λ _. ⌜ HoldsOver (now (into .entry)) quantity (now (list .entry)) (now (into .exit)) ⌝ }
 {
