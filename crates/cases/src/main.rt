@@ -9,8 +9,6 @@ use answer::judged;
 use libc::STDIN_FILENO;
 use reading::read;
 use reading::unpack;
-use report::front_bytes;
-use report::front_numbers;
 use script::Case;
 use script::Operation;
 use script::Tally;
@@ -51,9 +49,9 @@ fn run_line(line: &[u8]) -> bool {
     let other_file = as_bytes(&other);
     run(
         case,
-        front_numbers(&list, case.first),
-        front_bytes(&file, case.first),
-        front_bytes(&other_file, case.second),
+        numbers::front(&list, case.first),
+        bytes::front(&file, case.first),
+        bytes::front(&other_file, case.second),
     )
 }
 

@@ -3,25 +3,24 @@ use super::answer::judged;
 use super::answer::with_bytes;
 use super::answer::with_text;
 use reader::Reply;
-use report::front_bytes;
 use report::marked_bytes;
 use report::room_of_bytes;
 
 fn settled(ticket: &[u8], reply: Reply, lent: &[u8]) {
     with_bytes(reply, lent);
     if let Reply::Done { count } = reply {
-        judged(marker::mark(ticket, front_bytes(lent, count)));
+        judged(marker::mark(ticket, bytes::front(lent, count)));
     }
 }
 
 pub(crate) fn settle(ticket: &[u8], room: usize) {
     let mut lent = marked_bytes();
     let reply = settler::settle(ticket, room_of_bytes(&mut lent, room));
-    settled(ticket, reply, front_bytes(&lent, room));
+    settled(ticket, reply, bytes::front(&lent, room));
 }
 
 pub(crate) fn sheet(ticket: &[u8], room: usize) {
     let mut lent = marked_bytes();
     let reply = sheets::sheet(ticket, room_of_bytes(&mut lent, room));
-    with_text(reply, front_bytes(&lent, room));
+    with_text(reply, bytes::front(&lent, room));
 }

@@ -11,11 +11,12 @@ use lib.ListN.{length}
 use lib.Seq.{sets}
 use Rattle.grid.proofs.Cases.{never}
 use Rattle.reader.specs.declared.Reply.{Reply}
-use Rattle.reader.specs.Refusals.{ticketRefusals, aboveLimit, noRoom}
-use Rattle.reader.specs.Groups.{pack}
+use Rattle.checks.specs.Refusals.{ticketRefusals, aboveLimit, noRoom, must, first}
+use Rattle.checks.specs.TicketFaults.{partyFault, amountFault}
+use Rattle.groups.specs.Groups.{pack}
 use Rattle.reader.specs.Walk.{Numbers, readHead}
-use Rattle.reader.specs.State.{start, must, first}
-use Rattle.reader.specs.Ticket.{placeField, dealField, partyFault, amountFault}
+use Rattle.reader.specs.State.{start}
+use Rattle.reader.specs.Ticket.{placeField, dealField}
 use Rattle.reader.specs.Layout.{ticket}
 use Rattle.reader.specs.Answer.{packed, reply, Tells, kept}
 use Rattle.reader.proofs.WalkLaws.{Good, Accepted, accepts-form}

@@ -6,8 +6,8 @@ use mathlib.Core.Path.{_≡_}
 use mathlib.Core.Bool.{Bool, cond, _&&_}
 use mathlib.Core.List.{List, [], _∷_, _++_}
 use lib.Dec.{leb, eqb}
-use Rattle.reader.specs.Refusals.{ticketRefusals}
-use Rattle.reader.specs.Groups.{pack}
+use Rattle.checks.specs.Refusals.{ticketRefusals}
+use Rattle.groups.specs.Groups.{pack}
 use Rattle.reader.specs.Walk.{Outcome, Refusal, Numbers}
 use Rattle.reader.specs.Answer.{packed}
 use Rattle.draws.specs.Generator.{next, start, after}

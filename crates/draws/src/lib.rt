@@ -55,7 +55,7 @@ fn deliver(x: u32, growers: usize, pilots: usize, list: &mut [u16]) -> Reply
     ensures { λ r. ⌜ r ≡ reply (length (now (list .entry))) (Numbers (ticketFrom growers pilots x)) ⌝ }
     ensures { λ _. ⌜ now (list .exit) ≡ kept (now (list .entry)) (Numbers (ticketFrom growers pilots x)) ⌝ }
 {
-    let pairs = grid::pairs(growers, pilots);
+    let pairs = numbers::pairs(growers, pilots);
     let count = 3 + growers + pilots + 5 * pairs;
     if list.len() < count {
         return Reply::Refused { why: NO_ROOM };

@@ -35,7 +35,7 @@ fn clash(pilots: usize, price: [u32; 16], shift: u32) -> usize
 pub fn rounding(pilots: usize, price: [u32; 16]) -> u32
     ensures { λ r. ⌜ r ≡ shiftOf price (min 16 pilots) ⌝ }
 {
-    let end = grid::within(pilots);
+    let end = numbers::within(pilots);
     for shift in 0..17u32 {
         if end <= clash(end, price, shift) {
             return shift;

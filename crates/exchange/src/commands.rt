@@ -12,7 +12,6 @@ use libc::STDERR_FILENO;
 use libc::STDOUT_FILENO;
 use lists::Listed;
 use reader::Reply;
-use report::front_bytes;
 use verdicts::Verdict;
 
 fn refused(why: u8) {
@@ -25,7 +24,7 @@ fn print_sheet(ticket: &[u8]) {
     let mut text = room::page();
     let reply = sheets::sheet(ticket, &mut text);
     if let Reply::Done { count } = reply {
-        say(STDOUT_FILENO, front_bytes(&text, count));
+        say(STDOUT_FILENO, bytes::front(&text, count));
     }
 }
 
@@ -35,7 +34,7 @@ fn settle(ticket: &[u8]) {
     let reply = settler::settle(ticket, &mut settlement);
     match reply {
         Reply::Refused { why } => refused(why),
-        Reply::Done { count } => files::write(3, front_bytes(&settlement, count)),
+        Reply::Done { count } => files::write(3, bytes::front(&settlement, count)),
     }
 }
 
@@ -53,7 +52,7 @@ fn mark_files(ticket: &[u8], settlement: &[u8]) {
     let mut line = room::line();
     let reply = texts::mark_line(ticket, settlement, &mut line);
     if let Reply::Done { count } = reply {
-        say(STDOUT_FILENO, front_bytes(&line, count));
+        say(STDOUT_FILENO, bytes::front(&line, count));
     }
     let verdict = marker::mark(ticket, settlement);
     words::explain(ticket, settlement, verdict);
@@ -66,17 +65,17 @@ fn mark(ticket: &[u8]) {
     let mut settlement = room::settlement_bytes();
     let got = files::read(3, &mut settlement);
     if let Got::Bytes { count } = got {
-        mark_files(ticket, front_bytes(&settlement, count));
+        mark_files(ticket, bytes::front(&settlement, count));
     }
 }
 
 // A ticket's numbers, a party or a pair to a line.
 fn unpack(ticket: &[u8]) {
-    let mut numbers = tables::ticket_list();
+    let mut numbers = numbers::ticket_list();
     let reply = reader::unpack(ticket, &mut numbers);
     match reply {
         Reply::Refused { why } => refused(why),
-        Reply::Done { count } => layout::ticket(grid::front(&numbers, count)),
+        Reply::Done { count } => layout::ticket(numbers::front(&numbers, count)),
     }
 }
 
@@ -94,7 +93,7 @@ pub(crate) fn on_ticket(operation: Operation) {
     let mut ticket = room::ticket_bytes();
     let got = files::read(2, &mut ticket);
     if let Got::Bytes { count } = got {
-        run(operation, front_bytes(&ticket, count));
+        run(operation, bytes::front(&ticket, count));
     }
 }
 
@@ -104,7 +103,7 @@ fn pack_numbers(numbers: &[u16], argument: usize) {
     let reply = reader::pack(numbers, &mut ticket);
     match reply {
         Reply::Refused { why } => refused(why),
-        Reply::Done { count } => files::write(argument, front_bytes(&ticket, count)),
+        Reply::Done { count } => files::write(argument, bytes::front(&ticket, count)),
     }
 }
 
@@ -117,7 +116,7 @@ fn pack_text(text: &[u8]) {
             say(STDERR_FILENO, b": not a number up to 65535\n");
         }
         Listed::NoRoom => say(STDERR_FILENO, b"more than 32768 numbers\n"),
-        Listed::Done { count } => pack_numbers(grid::front(&numbers, count), 3),
+        Listed::Done { count } => pack_numbers(numbers::front(&numbers, count), 3),
     }
 }
 
@@ -126,7 +125,7 @@ pub(crate) fn pack() {
     let got = files::read(2, &mut text);
     if let Got::Bytes { count } = got {
         if count < 65536 {
-            pack_text(front_bytes(&text, count));
+            pack_text(bytes::front(&text, count));
         } else {
             say(STDERR_FILENO, b"more than 65535 bytes\n");
         }
@@ -134,16 +133,16 @@ pub(crate) fn pack() {
 }
 
 fn draw_ticket(seed: u16, growers: u16, pilots: u16) {
-    let mut numbers = tables::ticket_list();
+    let mut numbers = numbers::ticket_list();
     let reply = draws::draw(
-        grid::wide(seed),
-        grid::index(growers),
-        grid::index(pilots),
+        seed as u64,
+        numbers::index(growers),
+        numbers::index(pilots),
         &mut numbers,
     );
     match reply {
         Reply::Refused { why } => refused(why),
-        Reply::Done { count } => pack_numbers(grid::front(&numbers, count), 5),
+        Reply::Done { count } => pack_numbers(numbers::front(&numbers, count), 5),
     }
 }
 

@@ -19,14 +19,14 @@ fn parties(word: &[u8], count: usize, hours: [u16; 16]) {
     }
 }
 
-fn pair(i: usize, j: usize, tariff_cap: u64, gain: u64, pay: u64, free_cap: u64, joint: u64) {
+fn pair(i: usize, j: usize, tariff_cap: u16, gain: u16, pay: u16, free_cap: u16, joint_gain: u16) {
     counted(STDOUT_FILENO, b"pair ", i as u64);
     counted(STDOUT_FILENO, b" ", j as u64);
-    counted(STDOUT_FILENO, b" tariff cap ", tariff_cap);
-    counted(STDOUT_FILENO, b" gains ", gain);
-    counted(STDOUT_FILENO, b" ", pay);
-    counted(STDOUT_FILENO, b" free cap ", free_cap);
-    counted(STDOUT_FILENO, b" gain ", joint);
+    counted(STDOUT_FILENO, b" tariff cap ", tariff_cap as u64);
+    counted(STDOUT_FILENO, b" gains ", gain as u64);
+    counted(STDOUT_FILENO, b" ", pay as u64);
+    counted(STDOUT_FILENO, b" free cap ", free_cap as u64);
+    counted(STDOUT_FILENO, b" gain ", joint_gain as u64);
     end_line(STDOUT_FILENO);
 }
 
@@ -37,7 +37,7 @@ fn pairs(
     gain: [[u16; 16]; 16],
     pay: [[u16; 16]; 16],
     free_cap: [[u16; 16]; 16],
-    joint: [[u16; 16]; 16],
+    joint_gain: [[u16; 16]; 16],
 ) {
     for i in 0..growers {
         for j in 0..pilots {
@@ -48,7 +48,7 @@ fn pairs(
                 grid::cell(gain, i, j),
                 grid::cell(pay, i, j),
                 grid::cell(free_cap, i, j),
-                grid::cell(joint, i, j),
+                grid::cell(joint_gain, i, j),
             );
         }
     }

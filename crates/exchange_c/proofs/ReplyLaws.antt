@@ -13,15 +13,15 @@ use lib.Dec.{leb}
 use lib.ListN.{length, take}
 use lib.Seq.{length-take-le}
 use Rattle.grid.proofs.Cases.{never, lt-or-le}
-use Rattle.grid.proofs.Places.{prod-small}
+use Rattle.numbers.proofs.Products.{prod-small}
 use Rattle.reader.specs.declared.Reply.{Reply}
-use Rattle.reader.specs.Refusals.{noRoom}
-use Rattle.reader.specs.Groups.{Read, Number, Ends, TooLong, Padded, raise, readFrom, groups, bytes, pack}
+use Rattle.checks.specs.Refusals.{noRoom}
+use Rattle.groups.specs.Groups.{Read, Number, Ends, TooLong, Padded, raise, readFrom, groups, bytes, pack}
 use Rattle.reader.specs.Walk.{Outcome, Refusal, Numbers, readHead, form}
 use Rattle.reader.specs.Steps.{Gives}
 use Rattle.reader.specs.Layout.{ticket, settlement}
 use Rattle.reader.specs.Answer.{unpacked, packed, packedAs, settlementRead, reply}
-use Rattle.reader.proofs.GroupLaws.{read-padded, read-last, read-more}
+use Rattle.groups.proofs.GroupLaws.{read-padded, read-last, read-more}
 use Rattle.reader.proofs.WalkLaws.{form-accepts}
 use Rattle.reader.proofs.TicketLaws.{shape}
 use Rattle.reader.proofs.Facts.{unpacked-shape, settlement-shape}

@@ -1,5 +1,4 @@
 // Writing a file, so that no half of it ever stands under its name. What fails is told on standard error, with the system's reason.
-use report::front_bytes;
 
 // Writes bytes to an open file and closes it, and answers whether all of them are stored.
 fn store(fd: i32, bytes: &[u8]) -> bool {
@@ -77,5 +76,5 @@ pub fn write(argument: usize, bytes: &[u8]) {
         return;
     }
     let beside = new_name(name, length);
-    replace(&name[..length], front_bytes(&beside, length + 4), bytes);
+    replace(&name[..length], bytes::front(&beside, length + 4), bytes);
 }

@@ -2,7 +2,6 @@ pub mod Cases
 pub mod Sums
 pub mod Squares
 pub mod ZeroSquares
-pub mod LineSums
 pub mod FirstPlaces
 pub mod Places
 pub mod Filling

@@ -28,10 +28,6 @@ deal-place m i j d hj hd =
 pub at-place : (g : ℕ → ℕ → ℕ → Bool) (m i j d : ℕ) → j < m → d < 2 → byPlace g m (2 * (i * m + j) + d) ≡ g i j d
 at-place g m i j d hj hd = let e = deal-place m i j d hj hd in rw (e .0, e .1, e .2)
 
--- products of numbers in range
-pub prod-small : (a b : ℕ) → a ≤ 16 → b ≤ 16 → a * b ≤ 256
-prod-small a b ha hb = mul-le-mul ha hb
-
 pub row-next : (i m : ℕ) → (i + 1) * m ≡ i * m + m
 row-next i m = omega (arith, add-mul i 1 m)
 

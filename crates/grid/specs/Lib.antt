@@ -1,7 +1,6 @@
 pub mod Pick
 pub mod Sum
 pub mod Grid
-pub mod Lines
 pub mod First
 pub mod Fill
 pub mod Front

@@ -7,7 +7,7 @@ use mathlib.Core.List.{List}
 use lib.Dec.{leb}
 use lib.ListN.{length}
 use lib.Seq.{sets}
-use Rattle.lists.specs.declared.numbers.Listed.{Listed}
+use Rattle.lists.specs.declared.text.Listed.{Listed}
 use Rattle.lists.specs.NumberText as text
 
 -- The answer where `room` places are lent.

@@ -1,5 +1,5 @@
 // Decimal numbers read from a text into a lent list.
-mod numbers;
+mod text;
 
-pub use numbers::Listed;
-pub use numbers::read_numbers;
+pub use text::Listed;
+pub use text::read_numbers;

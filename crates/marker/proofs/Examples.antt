@@ -3,7 +3,7 @@
 use mathlib.Core.Path.{refl}
 use Rattle.grid.specs.First.{first}
 use Rattle.grid.specs.Sum.{sum}
-use Rattle.reader.specs.Groups.{readFrom}
+use Rattle.groups.specs.Groups.{readFrom}
 use Rattle.reader.specs.Walk.{walk, form}
 use Rattle.verdicts.specs.Tests.{cheapestOf}
 use Rattle.marker.specs.Examples.{Examples}

@@ -9,7 +9,8 @@ use native.Mathlib.Omega.{arith}
 use borrow.Author.Tests.{lt-ltb, le-ltb}
 use Rattle.grid.specs.First.{first}
 use Rattle.grid.proofs.Cases.{lt-or-le}
-use Rattle.grid.proofs.Places.{inside, within, prod-small}
+use Rattle.grid.proofs.Places.{inside, within}
+use Rattle.numbers.proofs.Products.{prod-small}
 use Rattle.market.specs.declared.Deal.{Deal}
 use Rattle.market.specs.declared.Deal.the-variants.{Tariff, Free}
 use Rattle.market.specs.Market.{Ticket, Settlement}

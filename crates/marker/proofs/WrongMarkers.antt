@@ -6,7 +6,7 @@ use mathlib.Core.List.{List, [], _∷_}
 use native.Mathlib.Omega.{arith}
 use Rattle.grid.specs.First.{first}
 use Rattle.grid.specs.Sum.{sum}
-use Rattle.reader.specs.Groups.{readFrom}
+use Rattle.groups.specs.Groups.{readFrom}
 use Rattle.reader.specs.Walk.{Outcome, Refusal, Numbers, walk, form}
 use Rattle.reader.specs.Answer.{unpacked, settlementRead}
 use Rattle.tables.specs.View.{growersOf, pilotsOf}

@@ -111,7 +111,7 @@ pub(crate) fn judge_deals(
         r ≡ dealsJudged (ticketFrom o) (settlementFrom o)) ⌝ }
 {
     let mut verdict = Verdict::Sound {
-        count: 2 * grid::pairs(n, m),
+        count: 2 * numbers::pairs(n, m),
     };
     'search: for i in 0..n {
         let grower = growers[i];

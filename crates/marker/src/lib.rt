@@ -35,11 +35,11 @@ fn mark_against(ticket: &[u16], settlement: &[u8]) -> Verdict
 {
     let growers = tables::growers(ticket);
     let pilots = tables::pilots(ticket);
-    let mut numbers = tables::settlement_list();
+    let mut numbers = numbers::settlement_list();
     let reply = reader::read_settlement(settlement, growers, pilots, &mut numbers);
     match reply {
         Reply::Refused { why } => Verdict::Refused { why },
-        Reply::Done { count } => judge(ticket, grid::front(&numbers, count)),
+        Reply::Done { count } => judge(ticket, numbers::front(&numbers, count)),
     }
 }
 
@@ -48,10 +48,10 @@ pub fn mark(ticket: &[u8], settlement: &[u8]) -> Verdict
     ensures { λ r. ⌜ r ≡ marked (now (ticket .entry)) (now (settlement .entry)) ⌝ }
     ensures { λ r. ⌜ valuesOf r ≡ markedValues (now (ticket .entry)) (now (settlement .entry)) ⌝ }
 {
-    let mut numbers = tables::ticket_list();
+    let mut numbers = numbers::ticket_list();
     let reply = reader::unpack(ticket, &mut numbers);
     match reply {
         Reply::Refused { why } => Verdict::Refused { why },
-        Reply::Done { count } => mark_against(grid::front(&numbers, count), settlement),
+        Reply::Done { count } => mark_against(numbers::front(&numbers, count), settlement),
     }
 }

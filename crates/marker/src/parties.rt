@@ -11,12 +11,8 @@ ghost use Rattle.market.specs.Tables.{ticketIn, settlementIn};
 ghost use Rattle.marker.specs.Tables.{usedIn, partyOf, partyAt, nobody, isOver, IsGrower, IsPilot};
 use crate::Party;
 use grid::turned;
-
-fn wide(x: u16) -> u32
-    ensures { λ r. ⌜ (r ≡ x) × (r < 65536) ⌝ }
-{
-    x as u32
-}
+use numbers::less;
+use numbers::wide;
 
 // A party's hours over all deals.
 fn used(tariff: [u16; 16], free: [u16; 16], partners: usize) -> u32
@@ -106,12 +102,6 @@ fn parties(
         );
     }
     all
-}
-
-fn less(a: u16, b: u16) -> u16
-    ensures { λ r. ⌜ r ≡ a - b ⌝ }
-{
-    if b < a { a - b } else { 0 }
 }
 
 // What growers have of an hour of each free deal: the joint gain without the pilot's pay.

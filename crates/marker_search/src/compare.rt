@@ -4,7 +4,6 @@ use plain::Answer;
 use plain::count;
 use plain::found;
 use plain::verdict;
-use report::front_bytes;
 use verdicts::Verdict;
 
 // A tally's places: 0 for answers that differ, 1 to 8 for the verdicts that were compared, 9 for tickets, 10 for settlements
@@ -55,7 +54,7 @@ fn is_marked_so(ticket: &[u8], settlement: &[u8], wanted: Answer) -> bool {
 
 // A settlement judged by the plain search and by the marker.
 pub(crate) fn judge(ticket: &[u8], all: &[u8; 15], tally: &mut [usize; 12]) {
-    let settlement = front_bytes(all, 9);
+    let settlement = bytes::front(all, 9);
     let wanted = verdict(ticket, settlement);
     count(&mut *tally, wide(wanted.number));
     if !is_marked_so(ticket, settlement, wanted) {

@@ -6,7 +6,6 @@ use super::printed;
 use plain::Most;
 use plain::count;
 use plain::no_counts;
-use report::front_bytes;
 
 // Every settlement within a ticket's limits. Each of six numbers takes at most three values, so there are at most 729.
 fn within_limits(ticket: &[u8], tally: &mut [usize; 12]) {
@@ -20,7 +19,7 @@ fn within_limits(ticket: &[u8], tally: &mut [usize; 12]) {
 }
 
 fn of_ticket(file: &[u8; 27], tally: &mut [usize; 12]) {
-    let ticket = front_bytes(file, 16);
+    let ticket = bytes::front(file, 16);
     count(&mut *tally, TICKETS);
     within_limits(ticket, &mut *tally);
     beyond::limits(ticket, tally);

@@ -16,8 +16,8 @@ use Rattle.method.specs.declared.Best.{Best}
 use Rattle.method.specs.declared.Best.the-variants.{Nothing, Offer}
 use Rattle.method.specs.declared.Request.{Request}
 use Rattle.method.specs.declared.Request.the-variants.{Content, Hours}
-use Rattle.method.specs.declared.Terms.{Terms}
-use Rattle.method.specs.declared.Agreed.{Agreed}
+use Rattle.offers.specs.declared.Terms.{Terms}
+use Rattle.offers.specs.declared.Agreed.{Agreed}
 use Rattle.method.specs.View.{line, ticket, alone, heldIn, heldBy, agreedIn, termsIn, hoursIn, capOf}
 use Rattle.method.specs.Choice.{chance, Greatest, Wanted, AsksNothing, Room, Asks}
 

@@ -9,10 +9,10 @@ use denote.Laws.{Is}
 use denote.Shadow.{shadow}
 use denote.Array.{Array, each}
 use denote.Struct.Declared.{row}
-use Rattle.method.specs.declared.Terms.{Terms}
+use Rattle.offers.specs.declared.Terms.{Terms}
 use Rattle.method.specs.View.{noTerms, termsIn, termsAt, ticket}
 use Rattle.method.specs.State.{Fit}
-use Rattle.method.proofs.Terms.{the-type}
+use Rattle.offers.proofs.Terms.{the-type}
 
 pub record Small (terms : Terms) : Type 0 where
   pub tariffCap : terms .«tariff_cap» < 65536

@@ -13,7 +13,7 @@ use Rattle.market.specs.declared.Deal.{Deal}
 use Rattle.market.specs.declared.Deal.the-variants.{Tariff, Free}
 use Rattle.market.specs.Method.{Slot, byTariff, oldFree, newFree, slotFor}
 use Rattle.market.specs.Steps.{SameExcept, here, same, Added}
-use Rattle.method.specs.declared.Agreed.{Agreed}
+use Rattle.offers.specs.declared.Agreed.{Agreed}
 use Rattle.method.specs.View.{noHours, agreedIn, agreedAt, hoursHeld, heldIn}
 use Rattle.method.specs.LateHours.{lateSlot}
 use Rattle.method.specs.Changes.{Full, putCell, MoreHeld, agedPair, Aged}

@@ -8,20 +8,19 @@ use native.Mathlib.Omega.{arith}
 use borrow.Author.Tests.{lt-ltb}
 use lib.ListN.{getD, set, length, length-set}
 use lib.Seq.{getD-set-same, getD-set-other}
-use Rattle.grid.proofs.Cases.{never, by-index}
+use Rattle.grid.proofs.Cases.{by-index}
 use Rattle.grid.specs.Pick.{pick}
 use Rattle.market.specs.declared.Deal.{Deal}
 use Rattle.market.specs.declared.Deal.the-variants.{Tariff, Free}
 use Rattle.market.specs.Market.{Ticket, cap}
 use Rattle.market.specs.Method.{Held, byTariff, oldFree, newFree, hoursOf, offer, worth}
-use Rattle.method.specs.declared.Terms.{Terms}
-use Rattle.method.specs.declared.Agreed.{Agreed}
-use Rattle.method.specs.View.{line, ticket, alone, heldIn, heldBy, topPrice}
+use Rattle.offers.specs.declared.Terms.{Terms}
+use Rattle.offers.specs.declared.Agreed.{Agreed}
+use Rattle.offers.specs.Limits.{topPrice, pilotSlack}
+use Rattle.method.specs.View.{line, ticket, alone, heldIn, heldBy}
 use Rattle.method.specs.Choice.{chance}
 use Rattle.method.specs.Jumps.{among, WorthAtLeast, OffersAtMost, GrowerBears, TariffsBear, GrowersBear, PilotsBear, RaisedMarked}
-
-pub not-both : {A : Type 0} (b : Bool) → b ≡ true → b ≡ false → A
-not-both b p q = let z : _≡_ {A = ℕ} 0 1 = cc in never z
+use Rattle.method.proofs.PairLimits.{pilot-less, pilot-below, pilot-full}
 
 -- Prices of which the first k are raised.
 pub record Raising (prices prices′ : List ℕ) (marks : List Bool) (k x : ℕ) : Type 0 where
@@ -66,30 +65,30 @@ module _ (t : Ticket) (chosen : ℕ → Bool) (price : ℕ → ℕ) (held : Held
   pub worth-none : (low : ℕ) → WorthAtLeast t chosen price held i 0 low
   worth-none low = record { old = λ j h. absurd (omega arith); new = λ j h. absurd (omega arith) }
 
-  pub worth-more : (k low here low′ : ℕ) → low′ ≤ low → low′ ≤ here →
-      (chosen k ≡ true → 0 < held oldFree i k → here ≤ worth t price oldFree i k) →
-      (chosen k ≡ true → 0 < held newFree i k → here ≤ worth t price newFree i k) →
+  pub worth-more : (k low low′ : ℕ) → low′ ≤ low →
+      (chosen k ≡ true → 0 < held oldFree i k → low′ ≤ worth t price oldFree i k) →
+      (chosen k ≡ true → 0 < held newFree i k → low′ ≤ worth t price newFree i k) →
       WorthAtLeast t chosen price held i k low → WorthAtLeast t chosen price held i (k + 1) low′
-  worth-more k low here low′ a b o n w = record {
+  worth-more k low low′ a o n w = record {
     old = by-index (λ j. j < k + 1 → chosen j ≡ true → 0 < held oldFree i j → low′ ≤ worth t price oldFree i j) k
-        (λ _ m p. omega (arith, o m p))
+        (λ _. o)
         (λ j ne h m p. omega (arith, w .old j (omega arith) m p));
     new = by-index (λ j. j < k + 1 → chosen j ≡ true → 0 < held newFree i j → low′ ≤ worth t price newFree i j) k
-        (λ _ m p. omega (arith, n m p))
+        (λ _. n)
         (λ j ne h m p. omega (arith, w .new j (omega arith) m p));
   }
 
   pub offers-none : OffersAtMost t chosen price held i 0 1
   offers-none = record { some = omega arith; tariff = λ l h. absurd (omega arith); free = λ l h. absurd (omega arith) }
 
-  pub offers-more : (k top here top′ : ℕ) → top ≤ top′ → here ≤ top′ → chance t price held i Tariff k ≤ here →
-      (chosen k ≡ false → chance t price held i Free k ≤ here) → OffersAtMost t chosen price held i k top →
+  pub offers-more : (k top top′ : ℕ) → top ≤ top′ → chance t price held i Tariff k ≤ top′ →
+      (chosen k ≡ false → chance t price held i Free k ≤ top′) → OffersAtMost t chosen price held i k top →
       OffersAtMost t chosen price held i (k + 1) top′
-  offers-more k top here top′ a b tariff free o = record {
+  offers-more k top top′ a tariff free o = record {
     some = omega (arith, o .some);
-    tariff = by-index (λ l. l < k + 1 → chance t price held i Tariff l ≤ top′) k (λ _. omega arith)
+    tariff = by-index (λ l. l < k + 1 → chance t price held i Tariff l ≤ top′) k (λ _. tariff)
         (λ l ne h. omega (arith, o .tariff l (omega arith)));
-    free = by-index (λ l. l < k + 1 → chosen l ≡ false → chance t price held i Free l ≤ top′) k (λ _ m. omega (arith, free m))
+    free = by-index (λ l. l < k + 1 → chosen l ≡ false → chance t price held i Free l ≤ top′) k (λ _. free)
         (λ l ne h m. omega (arith, o .free l (omega arith) m));
   }
 
@@ -190,24 +189,24 @@ module _ (chosen : ℕ → Bool) (free price : ℕ → ℕ) where
   pub pilots-none : (r : ℕ) → PilotsBear chosen free price 0 r
   pilots-none r = record { full = λ pos j h. absurd (omega arith); below = λ x pos le j h. absurd (omega arith) }
 
-  -- every pilot bears a rise of 0
-  pub pilots-still : (k : ℕ) → PilotsBear chosen free price k 0
-  pilots-still k = record { full = λ pos. absurd (omega arith); below = λ x pos le. absurd (omega arith) }
-
   pub pilots-less : (k r r′ : ℕ) → r′ ≤ r → PilotsBear chosen free price k r → PilotsBear chosen free price k r′
   pilots-less k r r′ a all = record {
     full = λ pos. all .full (omega arith);
     below = λ x pos le. all .below x pos (omega arith);
   }
 
-  pub pilots-more : (k r r′ : ℕ) → r′ ≤ r → (chosen k ≡ true → free k ≡ 0) → (chosen k ≡ true → r′ ≤ topPrice - price k) →
-      PilotsBear chosen free price k r → PilotsBear chosen free price (k + 1) r′
-  pilots-more k r r′ a none below all = record {
-    full = λ pos. by-index (λ j. j < k + 1 → chosen j ≡ true → free j ≡ 0) k (λ _ m. none m)
-        (λ j ne h. all .full (omega arith) j (omega arith));
-    below = λ x pos le. by-index (λ j. j < k + 1 → chosen j ≡ true → price j + x ≤ topPrice) k (λ _ m. omega (arith, below m))
-        (λ j ne h. all .below x pos (omega arith) j (omega arith));
-  }
+  pub pilots-more : (k r r′ : ℕ) → r′ ≡ pilotSlack r (chosen k) (free k) (price k) → PilotsBear chosen free price k r →
+      PilotsBear chosen free price (k + 1) r′
+  pilots-more k r r′ e all =
+      let less : r′ ≤ r = rw e (pilot-less r (chosen k) (free k) (price k)) in
+      record {
+        full = λ pos. by-index (λ j. j < k + 1 → chosen j ≡ true → free j ≡ 0) k
+            (λ _ m. pilot-full r (chosen k) (free k) (price k) m (omega arith))
+            (λ j ne h. all .full (omega arith) j (omega arith));
+        below = λ x pos le. by-index (λ j. j < k + 1 → chosen j ≡ true → price j + x ≤ topPrice) k
+            (λ _ m. omega (arith, pilot-below r (chosen k) (free k) (price k) m))
+            (λ j ne h. all .below x pos (omega arith) j (omega arith));
+      }
 
   pub pilots-end : (k l r : ℕ) → k ≡ l → PilotsBear chosen free price k r → PilotsBear chosen free price l r
   pilots-end k l r e all = rw (sym e) all

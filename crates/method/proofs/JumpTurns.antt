@@ -11,9 +11,10 @@ use Rattle.market.specs.Market.{Ticket}
 use Rattle.market.specs.Method.{Held}
 use Rattle.market.specs.Steps as steps
 use Rattle.market.proofs.Jump.{step-jump, jump-falls}
-use Rattle.method.specs.declared.Terms.{Terms}
-use Rattle.method.specs.declared.Agreed.{Agreed}
-use Rattle.method.specs.View.{line, ticket, heldIn, topPrice}
+use Rattle.offers.specs.declared.Terms.{Terms}
+use Rattle.offers.specs.declared.Agreed.{Agreed}
+use Rattle.offers.specs.Limits.{topPrice}
+use Rattle.method.specs.View.{line, ticket, heldIn}
 use Rattle.method.specs.State.{Live, FreeHours, Turned}
 use Rattle.method.specs.Jumps.{among, GrowersBear, PilotsBear, RaisedMarked}
 use Rattle.method.specs.Rises.{Jumps}

@@ -9,5 +9,6 @@ pub mod PilotHours
 pub mod Rounds
 pub mod EuroPrices
 pub mod Soundness
+pub mod PairLimits
 pub mod JumpLaws
 pub mod JumpTurns

@@ -13,7 +13,7 @@ use Rattle.market.specs.Market.{Ticket, usedByPilot}
 use Rattle.market.specs.Method.{Slot, byTariff, oldFree, newFree, hoursOf}
 use Rattle.market.specs.Steps.{Added}
 use Rattle.market.proofs.Adding.{usedByPilot-more, usedByPilot-same}
-use Rattle.method.specs.declared.Agreed.{Agreed}
+use Rattle.offers.specs.declared.Agreed.{Agreed}
 use Rattle.method.specs.View.{line, agreedAt, heldIn, noHours}
 use Rattle.method.specs.State.{FreeHours}
 use Rattle.method.proofs.HourChanges.{nothing-held}

@@ -6,7 +6,7 @@ use mathlib.Core.List.{List}
 use native.Mathlib.Decide.{decLt}
 use native.Mathlib.Omega.{arith}
 use Rattle.market.specs.Market.{Ticket}
-use Rattle.method.specs.declared.Agreed.{Agreed}
+use Rattle.offers.specs.declared.Agreed.{Agreed}
 use Rattle.method.specs.View.{line, heldIn}
 use Rattle.method.specs.State.{Live, FreeHours, Turned, Ended, leftToDo}
 use Rattle.method.specs.Choice.{AsksNothing}

@@ -12,8 +12,8 @@ use Rattle.market.specs.Tables.{ticketIn, settlementIn}
 use Rattle.market.specs.Same.{SameTicket}
 use Rattle.market.proofs.Same.{sound-same}
 use Rattle.market.proofs.End.{sound}
-use Rattle.method.specs.declared.Terms.{Terms}
-use Rattle.method.specs.declared.Agreed.{Agreed}
+use Rattle.offers.specs.declared.Terms.{Terms}
+use Rattle.offers.specs.declared.Agreed.{Agreed}
 use Rattle.method.specs.View.{line, ticket, heldIn}
 use Rattle.method.specs.Given.{TermsOf}
 use Rattle.method.specs.State.{Ended}

@@ -16,8 +16,9 @@ use Rattle.market.proofs.Deals.{best-deal, not-late, below-top}
 use Rattle.market.proofs.Squares.{raised-of}
 use Rattle.market.proofs.Steps.{start, step-add, step-move, step-raise}
 use Rattle.market.proofs.Measure.{add-falls, move-falls, raise-falls}
-use Rattle.method.specs.declared.Agreed.{Agreed}
-use Rattle.method.specs.View.{line, heldIn, hoursHeld, agreedAt, noHours, topPrice}
+use Rattle.offers.specs.declared.Agreed.{Agreed}
+use Rattle.offers.specs.Limits.{topPrice}
+use Rattle.method.specs.View.{line, heldIn, hoursHeld, agreedAt, noHours}
 use Rattle.method.specs.State.{Fit, Live, Turned}
 use Rattle.method.specs.Choice.{Wanted}
 use Rattle.method.specs.LateHours.{lateSlot, HasLate}

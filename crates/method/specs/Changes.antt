@@ -6,7 +6,7 @@ use mathlib.Core.Logic.{_⊎_}
 use mathlib.Core.List.{List, []}
 use lib.ListN.{getD, set, length}
 use Rattle.market.specs.Method.{Slot}
-use Rattle.method.specs.declared.Agreed.{Agreed}
+use Rattle.offers.specs.declared.Agreed.{Agreed}
 use Rattle.method.specs.View.{agreedAt, hoursHeld}
 
 -- a square of 16 rows of 16 pairs

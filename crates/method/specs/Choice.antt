@@ -1,14 +1,12 @@
 -- What growers ask for.
 -- Assumes nothing.
-use Prim.Native.Nat.{ℕ, suc, _+_, _*_, _-_, _≤_, _<_}
+use Prim.Native.Nat.{ℕ, _+_, _*_, _≤_, _<_}
 use mathlib.Core.Path.{_≡_}
-use lib.Dec.{leb, ltb}
+use lib.Dec.{ltb}
 use Rattle.grid.specs.Pick.{pick}
 use Rattle.market.specs.declared.Deal.{Deal}
 use Rattle.market.specs.Market.{Ticket, cap, usedByGrower}
 use Rattle.market.specs.Method.{Held, hoursOf, offer}
-use Rattle.method.specs.declared.Terms.{Terms}
-use Rattle.method.specs.declared.Agreed.{Agreed}
 use Rattle.method.specs.declared.Best.{Best}
 use Rattle.method.specs.declared.Best.the-variants.{Nothing, Offer}
 use Rattle.method.specs.declared.Request.{Request}
@@ -17,16 +15,6 @@ use Rattle.method.specs.declared.Request.the-variants.{Content, Hours}
 -- what a deal of grower i offers, if it is below its cap, else 0
 abbrev pub chance : Ticket → (ℕ → ℕ) → Held → ℕ → Deal → ℕ → ℕ
 chance t price held i d j = pick (ltb (hoursOf held d i j) (cap t d i j)) (offer t price d i j) 0
-
--- the same of one pair, at the pilot's price
-abbrev pub tariffChance : Terms → Agreed → ℕ → ℕ
-tariffChance terms agreed price =
-    pick (ltb (agreed .«by_tariff») (terms .«tariff_cap»))
-    (pick (leb price (18 * terms .«tariff_pay»)) (suc (18 * terms .«tariff_gain»)) 0) 0
-
-abbrev pub freeChance : Terms → Agreed → ℕ → ℕ
-freeChance terms agreed price =
-    pick (ltb (agreed .«old_free» + agreed .«new_free») (terms .«free_cap»)) (suc (18 * terms .«joint_gain») - price) 0
 
 -- the place of the greatest f of both deals with the first k pilots, or nothing if they all are 0
 abbrev pub Greatest : (Deal → ℕ → ℕ) → ℕ → Best → Type 0

@@ -4,7 +4,7 @@ use Prim.Native.Nat.{ℕ, _<_}
 use mathlib.Core.Path.{_≡_}
 use mathlib.Core.List.{List}
 use Rattle.grid.specs.Grid.{Grid, at}
-use Rattle.method.specs.declared.Terms.{Terms}
+use Rattle.offers.specs.declared.Terms.{Terms}
 use Rattle.method.specs.View.{termsAt}
 
 -- the terms of grower i and pilot j

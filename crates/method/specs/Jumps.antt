@@ -10,7 +10,8 @@ use Rattle.market.specs.declared.Deal.the-variants.{Tariff, Free}
 use Rattle.market.specs.Market.{Ticket}
 use Rattle.market.specs.Method.{Held, byTariff, oldFree, newFree, worth}
 use Rattle.market.specs.Steps.{JumpGrower}
-use Rattle.method.specs.View.{line, topPrice}
+use Rattle.offers.specs.Limits.{topPrice}
+use Rattle.method.specs.View.{line}
 use Rattle.method.specs.Choice.{chance}
 
 -- the pilots that are marked

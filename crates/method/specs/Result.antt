@@ -11,7 +11,7 @@ use Rattle.grid.specs.Fill.{Filled, FilledOver}
 use Rattle.market.specs.declared.Deal.the-variants.{Tariff, Free}
 use Rattle.market.specs.Method.{hoursOf}
 use Rattle.euros.specs.Euros.{eurosOf}
-use Rattle.method.specs.declared.Agreed.{Agreed}
+use Rattle.offers.specs.declared.Agreed.{Agreed}
 use Rattle.method.specs.View.{line, heldIn}
 
 -- the pay per hour of a free deal, in whole euros, of the pilot's price and the deal's hours

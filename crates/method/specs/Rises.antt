@@ -7,7 +7,7 @@ use mathlib.Core.Logic.{_⊎_}
 use mathlib.Core.List.{List}
 use lib.ListN.{getD, set}
 use Rattle.market.specs.Market.{Ticket}
-use Rattle.method.specs.declared.Agreed.{Agreed}
+use Rattle.offers.specs.declared.Agreed.{Agreed}
 use Rattle.method.specs.View.{line, heldIn}
 use Rattle.method.specs.Changes.{Full, Aged}
 use Rattle.method.specs.Jumps.{among, GrowersBear, PilotsBear, RaisedMarked}

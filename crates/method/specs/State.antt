@@ -7,8 +7,9 @@ use lib.ListN.{length}
 use Rattle.market.specs.Market.{Ticket, usedByPilot}
 use Rattle.market.specs.Method.{hoursOf, Invariant, Done}
 use Rattle.market.specs.Steps.{measure}
-use Rattle.method.specs.declared.Agreed.{Agreed}
-use Rattle.method.specs.View.{line, heldIn, topPrice}
+use Rattle.offers.specs.declared.Agreed.{Agreed}
+use Rattle.offers.specs.Limits.{topPrice}
+use Rattle.method.specs.View.{line, heldIn}
 use Rattle.method.specs.Changes.{Full}
 
 -- a ticket of 16-bit numbers that fits the squares, whose parties ask nothing for a free hour

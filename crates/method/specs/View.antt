@@ -7,16 +7,12 @@ use Rattle.market.specs.declared.Deal.{Deal}
 use Rattle.market.specs.declared.Deal.the-variants.{Tariff, Free}
 use Rattle.market.specs.Market.{Ticket}
 use Rattle.market.specs.Method.{Slot, byTariff, oldFree, newFree, Held}
-use Rattle.method.specs.declared.Terms.{Terms}
-use Rattle.method.specs.declared.Agreed.{Agreed}
+use Rattle.offers.specs.declared.Terms.{Terms}
+use Rattle.offers.specs.declared.Agreed.{Agreed}
 
 -- a row of numbers
 abbrev pub line : List ℕ → ℕ → ℕ
 line l i = getD l i 0
-
--- no price is higher: 18 times the largest amount of 16 bits, and 1
-abbrev pub topPrice : ℕ
-topPrice = 1179631
 
 -- outside its square a pair has nothing
 abbrev pub noTerms : Terms

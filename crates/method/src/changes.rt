@@ -3,11 +3,12 @@ ghost use mathlib.Core.Path.{_≡_};
 ghost use Prim.Native.Nat.{ℕ, _+_, _<_, _≤_};
 ghost use lib.ListN.{getD, set};
 ghost use Rattle.market.specs.Method.{slotFor};
-ghost use Rattle.method.specs.View.{hoursHeld, agreedAt, topPrice};
+ghost use Rattle.offers.specs.Limits.{topPrice};
+ghost use Rattle.method.specs.View.{hoursHeld, agreedAt};
 ghost use Rattle.method.specs.LateHours.{lateSlot};
 ghost use Rattle.method.specs.Changes.{Full, MoreHeld, agedPair, Aged};
-use crate::Agreed;
 use market::Deal;
+use offers::Agreed;
 
 // The hours of a pair when x more come into a deal; in the free deal they are new.
 pub(crate) fn more(agreed: Agreed, deal: Deal, x: u16) -> Agreed

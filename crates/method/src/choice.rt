@@ -6,13 +6,13 @@ ghost use Rattle.market.specs.Market.{usedByGrower};
 ghost use Rattle.market.specs.Method.{hoursOf};
 ghost use Rattle.method.specs.View.{line, alone, heldBy};
 ghost use Rattle.method.specs.Choice.{chance, Greatest};
-use crate::Agreed;
 use crate::Best;
-use crate::Terms;
-use crate::numbers::wide;
-use crate::offers::free_chance;
-use crate::offers::tariff_chance;
 use market::Deal;
+use numbers::wide;
+use offers::Agreed;
+use offers::Choice;
+use offers::Terms;
+use offers::better;
 
 // The deal that offers a grower most.
 pub(crate) fn best_deal(
@@ -24,25 +24,17 @@ pub(crate) fn best_deal(
     requires { ⌜ pilots ≤ 16 ⌝ }
     ensures { λ r. ⌜ Greatest (chance (alone pilots 0 terms) (line (now (price .entry))) (heldBy agreed) 0) pilots r ⌝ }
 {
-    let mut top: u32 = 0;
-    let mut pilot: usize = 0;
-    let mut deal = Deal::Tariff;
+    let mut choice = Choice {
+        top: 0,
+        pilot: 0,
+        deal: Deal::Tariff,
+    };
     for j in 0..pilots {
-        let tariff = tariff_chance(terms[j], agreed[j], price[j]);
-        if top < tariff {
-            top = tariff;
-            pilot = j;
-            deal = Deal::Tariff;
-        }
-        let free = free_chance(terms[j], agreed[j], price[j]);
-        if top < free {
-            top = free;
-            pilot = j;
-            deal = Deal::Free;
-        }
+        choice = better(choice, terms[j], agreed[j], price[j], j);
     }
-    if 0 < top {
-        Best::Offer(pilot, deal)
+    if 0 < choice.top {
+        let deal = choice.deal;
+        Best::Offer(choice.pilot, deal)
     } else {
         Best::Nothing
     }

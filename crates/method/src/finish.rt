@@ -4,12 +4,13 @@ ghost use Prim.Native.Nat.{ℕ, _<_, _≤_};
 ghost use lib.ListN.{length};
 ghost use Rattle.market.specs.declared.Deal.{Deal};
 ghost use Rattle.market.specs.Method.{hoursOf};
-ghost use Rattle.method.specs.View.{line, agreedIn, agreedAt, noHours, heldIn, topPrice};
+ghost use Rattle.offers.specs.Limits.{topPrice};
+ghost use Rattle.method.specs.View.{line, agreedIn, agreedAt, noHours, heldIn};
 ghost use Rattle.method.specs.Changes.{Full};
 ghost use Rattle.method.specs.Result.{payAt, Flown};
-use crate::Agreed;
-use crate::numbers::narrow;
+use crate::arith::narrow;
 use euros::whole_euros;
+use offers::Agreed;
 
 pub(crate) fn zero_prices() -> [u32; 16]
     ensures { λ r. ⌜ (length r ≡ 16) × ((j : ℕ) → line r j ≡ 0) ⌝ }

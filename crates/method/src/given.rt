@@ -4,7 +4,7 @@ ghost use Prim.Native.Nat.{ℕ, _<_, _≤_};
 ghost use mathlib.Core.List.{[]};
 ghost use lib.ListN.{getD, length};
 ghost use Rattle.method.specs.Given.{TermsOf};
-use crate::Terms;
+use offers::Terms;
 
 fn no_terms() -> [Terms; 16]
     ensures { λ r. ⌜ length r ≡ 16 ⌝ }

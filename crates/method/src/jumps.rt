@@ -1,6 +1,7 @@
 // Jumps: the prices of several pilots rise at once.
 ghost use Prim.Native.Nat.{ℕ, _<_, _≤_};
-ghost use Rattle.method.specs.View.{line, topPrice};
+ghost use Rattle.offers.specs.Limits.{topPrice};
+ghost use Rattle.method.specs.View.{line};
 ghost use Rattle.method.specs.Jumps.{RaisedMarked};
 
 // The prices after those of the marked pilots rose by x.

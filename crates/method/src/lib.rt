@@ -2,15 +2,13 @@
 // rounding at the end makes them whole euros. Each quantity of a pair comes and goes in a square of growers by pilots of its own. Inside,
 // what the ticket says of a pair stands in one square, and the hours that it holds in another. The state is a row of prices, the square of
 // the hours held and a row of free hours.
+mod arith;
 mod changes;
 mod choice;
 mod finish;
 mod given;
 mod grower_limits;
 mod jumps;
-mod late;
-mod numbers;
-mod offers;
 mod pilot_limits;
 mod requests;
 mod rises;
@@ -23,23 +21,6 @@ ghost use Rattle.market.specs.Tables.{ticketIn, settlementIn};
 ghost use Rattle.method.specs.Result.{Beyond};
 use market::Deal;
 
-// What the ticket says of a grower and a pilot: caps in hours, amounts in euros per hour.
-pub(crate) struct Terms {
-    pub(crate) tariff_cap: u16,
-    pub(crate) tariff_gain: u16,
-    pub(crate) tariff_pay: u16,
-    pub(crate) free_cap: u16,
-    pub(crate) joint_gain: u16,
-}
-
-// The hours that a grower and a pilot hold: by the tariff, and in the free deal the old ones, agreed before the last rise of the
-// pilot's price, and the new ones.
-pub(crate) struct Agreed {
-    pub(crate) by_tariff: u16,
-    pub(crate) old_free: u16,
-    pub(crate) new_free: u16,
-}
-
 // The deal that offers a grower most: with which pilot, and which of their deals.
 pub(crate) enum Best {
     Nothing,
@@ -50,12 +31,6 @@ pub(crate) enum Best {
 pub(crate) enum Request {
     Content,
     Hours(usize, Deal, u16),
-}
-
-// Late hours of a pilot with one grower: in which of their deals, and how many.
-pub(crate) enum LateHours {
-    NoHours,
-    Hours(Deal, u16),
 }
 
 // A sound settlement of the market of the first growers and pilots, at most 16 of each, whatever their hours, caps and amounts: writes
@@ -80,8 +55,8 @@ pub fn settle_squares(
     ensures { λ r. ⌜ Beyond (min 16 growers) (min 16 pilots) (now («tariff_hours» .entry)) (now («free_hours» .entry))
         (now («tariff_hours» .exit)) (now («free_hours» .exit)) r ⌝ }
 {
-    let n = grid::within(growers);
-    let m = grid::within(pilots);
+    let n = numbers::within(growers);
+    let m = numbers::within(pilots);
     let terms = given::terms_square(
         n,
         m,

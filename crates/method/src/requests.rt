@@ -3,16 +3,16 @@ ghost use mathlib.Core.Path.{_≡_};
 ghost use Prim.Native.Nat.{_+_, _<_, _≤_};
 ghost use Rattle.method.specs.View.{line, alone, heldBy, hoursIn, capOf};
 ghost use Rattle.method.specs.Choice.{Asks};
-use crate::Agreed;
 use crate::Best;
 use crate::Request;
-use crate::Terms;
+use crate::arith::least;
+use crate::arith::narrow;
 use crate::choice::best_deal;
 use crate::choice::used_by_grower;
-use crate::numbers::least;
-use crate::numbers::narrow;
-use crate::numbers::wide;
 use market::Deal;
+use numbers::wide;
+use offers::Agreed;
+use offers::Terms;
 
 // How many hours a deal of a grower and a pilot has room for.
 fn room(terms: Terms, agreed: Agreed, deal: Deal) -> u32

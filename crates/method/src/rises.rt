@@ -1,11 +1,10 @@
 // How a pilot's price rises: with the prices of the pilots tied to him, as far as all bear it, or else alone and by one.
 ghost use Prim.Native.Nat.{ℕ, _+_, _<_, _≤_};
 ghost use mathlib.Core.List.{[]};
-ghost use Rattle.method.specs.View.{line, ticket, agreedAt, topPrice};
+ghost use Rattle.offers.specs.Limits.{topPrice};
+ghost use Rattle.method.specs.View.{line, ticket, agreedAt};
 ghost use Rattle.method.specs.Changes.{Full};
 ghost use Rattle.method.specs.Rises.{Rises};
-use crate::Agreed;
-use crate::Terms;
 use crate::changes::age;
 use crate::changes::raise_price;
 use crate::grower_limits::row_slack;
@@ -15,6 +14,8 @@ use crate::requests::following;
 use crate::ties::only;
 use crate::ties::same_marks;
 use crate::ties::tie_in;
+use offers::Agreed;
+use offers::Terms;
 
 // Pilot j's price rises. The pilots tied to him are marked, by one grower after another and round again until all growers in a row tie
 // nobody; 16 rounds suffice, since each but the last ties one more of 16 pilots. If all bear it, the marked prices rise at once, or else

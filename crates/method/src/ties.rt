@@ -1,10 +1,10 @@
 // The pilots whose prices rise together. Any choice would do, for what growers and pilots bear is tested; this one makes jumps long.
 ghost use Prim.Native.Nat.{_<_, _≤_};
-use crate::Agreed;
-use crate::Terms;
 use crate::grower_limits::least_worth;
-use crate::numbers::less;
-use crate::offers::free_chance;
+use numbers::less_wide;
+use offers::Agreed;
+use offers::Terms;
+use offers::free_chance;
 
 // The marked pilots, and every pilot whose free deal offers the grower as much as his least free hour with a marked one, or one less.
 pub(crate) fn tie_in(
@@ -16,7 +16,7 @@ pub(crate) fn tie_in(
 ) -> [bool; 16]
     requires { ⌜ pilots ≤ 16 ⌝ }
 {
-    let low = less(least_worth(terms, agreed, price, pilots, marks), 1);
+    let low = less_wide(least_worth(terms, agreed, price, pilots, marks), 1);
     let mut tied = marks;
     for j in 0..pilots {
         if low <= free_chance(terms[j], agreed[j], price[j]) {

@@ -4,18 +4,18 @@ ghost use Prim.Native.Nat.{ℕ};
 ghost use lib.ListN.{length};
 ghost use Rattle.method.specs.View.{line, ticket};
 ghost use Rattle.method.specs.State.{Fit, Ended};
-use crate::Agreed;
-use crate::LateHours;
 use crate::Request;
-use crate::Terms;
+use crate::arith::fewest;
 use crate::changes::fewer;
 use crate::changes::more;
 use crate::finish::no_hours;
-use crate::late::late_here;
-use crate::numbers::fewest;
 use crate::requests::following;
 use crate::requests::request;
 use crate::rises::rise;
+use offers::Agreed;
+use offers::LateHours;
+use offers::Terms;
+use offers::late_here;
 
 // The hours that are held at the end of the method, which starts with none. Growers are asked in turn, each until he asks for nothing; k
 // in a row did, up to the one before grower i. Hours are given while the pilot has free ones, or in place of late hours of his; if he has

@@ -1,7 +1,7 @@
 -- Examples, computed from the definitions.
 use mathlib.Core.Path.{_≡_, refl}
 use mathlib.Core.List.{[], _∷_}
-use Rattle.reader.specs.Groups.{readFrom}
+use Rattle.groups.specs.Groups.{readFrom}
 use Rattle.reader.specs.Walk.{Refusal, Numbers, walk, form}
 use Rattle.reader.specs.Answer.{unpacked, settlementRead, settlementPacked}
 

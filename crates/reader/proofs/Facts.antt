@@ -9,10 +9,10 @@ use borrow.Author.Tests.{le-leb, lt-leb}
 use lib.Dec.{lit<}
 use lib.ListN.{length, getD, take, drop, List·getD-append}
 use lib.Seq.{sets, sets-eq, take-at}
-use Rattle.reader.specs.declared.refusals.Document.{Document}
+use Rattle.checks.specs.declared.refusals.Document.{Document}
 use Rattle.reader.specs.declared.Reply.{Reply}
-use Rattle.reader.specs.Refusals.{noRoom}
-use Rattle.reader.specs.Groups.{Bytes, groups, bytes, pack}
+use Rattle.checks.specs.Refusals.{noRoom}
+use Rattle.groups.specs.Groups.{Bytes, groups, bytes, pack}
 use Rattle.reader.specs.Walk.{Outcome, Refusal, Numbers, readHead, form}
 use Rattle.reader.specs.Layout.{formOf, ticket, settlement}
 use Rattle.reader.specs.Answer.{unpacked, packed, packedAs, settlementRead, settlementPacked, counted, reply, kept}

@@ -8,19 +8,19 @@ use borrow.Author.Tests.{le-leb, lt-leb}
 use lib.Dec.{lit<}
 use lib.ListN.{length, getD, set, drop, length-set, drop-of-length-le}
 use lib.Seq.{sets, drop-cons}
-use Rattle.reader.specs.declared.refusals.Document.{Document}
+use Rattle.checks.specs.declared.refusals.Document.{Document}
 use Rattle.reader.specs.declared.layout.State.{State}
-use Rattle.reader.specs.declared.groups.Got.{Got}
+use Rattle.groups.specs.declared.Got.{Got}
 use Rattle.reader.specs.declared.Reply.{Reply}
-use Rattle.reader.specs.Refusals.{noRoom}
-use Rattle.reader.specs.Groups.{Read, Number, Ends, TooLong, Padded, bytes}
+use Rattle.checks.specs.Refusals.{noRoom}
+use Rattle.groups.specs.Groups.{Read, Number, Ends, TooLong, Padded, bytes, placed}
 use Rattle.reader.specs.Walk.{Outcome, Refusal, Numbers, form}
 use Rattle.reader.specs.State.{start}
 use Rattle.reader.specs.Layout.{afterIn, formOf}
 use Rattle.reader.specs.Answer.{counted, Tells, kept}
-use Rattle.reader.specs.Steps.{placed, Gives, firstNumbers, Fillable}
+use Rattle.reader.specs.Steps.{Gives, firstNumbers, Fillable}
 use Rattle.grid.proofs.Cases.{never}
-use Rattle.reader.proofs.Ends.{EndOf, end-trans, end-place}
+use Rattle.groups.proofs.Ends.{EndOf, end-trans, end-place}
 use Rattle.reader.proofs.Telling.{refuses, counts}
 use Rattle.reader.proofs.WalkLaws.{Good, form-accepts}
 use Rattle.reader.proofs.LayoutLaws.{number-small}

@@ -6,26 +6,26 @@ use native.Mathlib.Nat.{mul-le-mul}
 use native.Mathlib.Omega.{arith}
 use lib.Dec.{lit<}
 use lib.ListN.{length}
-use Rattle.reader.specs.declared.refusals.Document.{Document}
-use Rattle.reader.specs.declared.ticket.Field.{Field}
-use Rattle.reader.specs.declared.ticket.Field.the-variants.{Kind, Growers, Pilots, Hours, TariffCap, TariffGain, TariffPay, FreeCap}
-use Rattle.reader.specs.declared.ticket.Field.the-variants.{FreeGain}
+use Rattle.checks.specs.declared.refusals.Document.{Document}
+use Rattle.checks.specs.declared.ticket.Field.{Field}
+use Rattle.checks.specs.declared.ticket.Field.the-variants.{Kind, Growers, Pilots, Hours, TariffCap, TariffGain, TariffPay, FreeCap}
+use Rattle.checks.specs.declared.ticket.Field.the-variants.{FreeGain}
 use Rattle.reader.specs.declared.layout.State.{State}
-use Rattle.reader.specs.Groups.{groups, pack}
+use Rattle.groups.specs.Groups.{groups, pack}
 use Rattle.reader.specs.Walk.{final}
-use Rattle.reader.specs.State.{start, first, moved}
+use Rattle.reader.specs.State.{start, moved}
 use Rattle.reader.specs.Ticket.{fieldOf, afterOf}
 use Rattle.reader.specs.Settlement.{placeAfter}
 use Rattle.reader.specs.Layout.{faultIn, afterIn, bodyIn, formOf}
 use Rattle.reader.specs.Steps.{Known, mostPlaces, mostPairs}
-use Rattle.reader.proofs.GroupLaws.{encode-short, pack-length}
+use Rattle.groups.proofs.GroupLaws.{encode-short, pack-length}
 use Rattle.reader.proofs.WalkLaws.{Good}
 use Rattle.reader.proofs.TicketLaws.{ticket-small}
-use Rattle.reader.proofs.SettlementLaws.{settlement-passes}
+use Rattle.checks.proofs.FaultLaws.{settlement-passes}
 
 pub number-small : (p : Document) (s : State) (x : ℕ) → faultIn p s x ≡ 0 → x < 128 ^ groups
 number-small Document.Ticket s x e = ticket-small s x e
-number-small (Document.Settlement n m) s x e = settlement-passes n m s x e .0
+number-small (Document.Settlement n m) s x e = settlement-passes n m (s .place) x e .0
 
 -- A state that is known, one place on.
 abbrev Next : State → State → Type 0
@@ -54,7 +54,7 @@ known-place (suc (suc (suc p))) s x k h = next-moved s _ _ _ (k .growers) (k .pi
 pub known-after : (p : Document) (s : State) (x : ℕ) → Known s → faultIn p s x ≡ 0 →
     Known (afterIn p s x) × ((afterIn p s x) .place ≡ s .place + 1)
 known-after Document.Ticket s x k e = known-field (fieldOf s) s x k (ticket-small s x e)
-known-after (Document.Settlement n m) s x k e = known-place (s .place) s x k (settlement-passes n m s x e .0)
+known-after (Document.Settlement n m) s x k e = known-place (s .place) s x k (settlement-passes n m (s .place) x e .0)
 
 pub start-known : Known start
 start-known = record { growers = lit< tt; pilots = lit< tt }
@@ -77,8 +77,3 @@ pub good-short : (p : Document) (s : State) (xs : List ℕ) → Good (formOf p) 
 good-short p s [] g = omega arith
 good-short p s (x ∷ xs) g =
     omega (arith, pack-length x xs, encode-short groups x (omega arith) (number-small p s x (g .0)), good-short p (afterIn p s x) xs (g .1))
-
--- A refusal that is one comes first.
-pub first-some : (v w : ℕ) → 0 < v → v ≡ first v w
-first-some zero w h = absurd (omega arith)
-first-some (suc v) w h = refl

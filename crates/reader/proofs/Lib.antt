@@ -1,10 +1,7 @@
 -- The laws of `reader`, each file over those above it. Other crates cite `Telling` and `Facts`.
-pub mod Ends
 pub mod Telling
-pub mod GroupLaws
 pub mod WalkLaws
 pub mod Undoing
-pub mod Reading
 pub mod Writing
 pub mod TicketLaws
 pub mod SettlementLaws

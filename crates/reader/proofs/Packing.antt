@@ -9,10 +9,10 @@ use borrow.Author.Tests.{le-leb, lt-leb}
 use lib.Dec.{lit<}
 use lib.ListN.{length, getD, take, set, drop, length-append, drop-of-length-le}
 use lib.Seq.{sets, length-sets, drop-cons}
-use Rattle.reader.specs.declared.refusals.Document.{Document}
+use Rattle.checks.specs.declared.refusals.Document.{Document}
 use Rattle.reader.specs.declared.Reply.{Reply}
-use Rattle.reader.specs.Refusals.{noRoom}
-use Rattle.reader.specs.Groups.{encode, groups, pack}
+use Rattle.checks.specs.Refusals.{noRoom}
+use Rattle.groups.specs.Groups.{encode, groups, pack}
 use Rattle.reader.specs.Walk.{Outcome, Refusal, Numbers, readHead, final, form}
 use Rattle.reader.specs.State.{start}
 use Rattle.reader.specs.Layout.{formOf}

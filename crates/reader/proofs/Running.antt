@@ -7,24 +7,25 @@ use Prim.Native.Nat.{ℕ, zero, suc, _+_, _-_, _≤_, _<_}
 use native.Mathlib.Numerals.{add-one}
 use native.Mathlib.Omega.{arith}
 use borrow.Author.Tests.{lt-ltb, le-ltb}
-use lib.ListN.{length, drop, length-drop, length-append}
-use Rattle.reader.specs.declared.refusals.Document.{Document}
-use Rattle.reader.specs.declared.groups.Got.{Got}
+use lib.ListN.{length, getD, drop, length-drop, length-append, drop-of-length-le}
+use lib.Seq.{drop-cons}
+use Rattle.checks.specs.declared.refusals.Document.{Document}
+use Rattle.groups.specs.declared.Got.{Got}
 use Rattle.reader.specs.declared.layout.State.{State}
 use Rattle.reader.specs.declared.scan.SourceKind.{SourceKind}
 use Rattle.reader.specs.declared.scan.Run.{Run}
 use Rattle.reader.specs.declared.Reply.{Reply}
-use Rattle.reader.specs.Refusals.{refusalsOf}
-use Rattle.reader.specs.Groups.{Read, Number, Ends, TooLong, Padded, groups, bytes}
+use Rattle.checks.specs.Refusals.{refusalsOf}
+use Rattle.groups.specs.Groups.{Read, Number, Ends, TooLong, Padded, groups, bytes, placed}
 use Rattle.reader.specs.Walk.{Source, readHead, Taken, Refused, Took, met, unless, with, next, closed, final, walk, rest, form}
 use Rattle.reader.specs.State.{start}
 use Rattle.reader.specs.Layout.{faultIn, afterIn, bodyIn, formOf}
 use Rattle.reader.specs.Answer.{counted}
-use Rattle.reader.specs.Steps.{placed, readOf, refusing, taking, begun, unlessFault, stepped, nextRun, goneOn}
-use Rattle.reader.specs.Steps.{Ready, Known, closing, Gives}
+use Rattle.reader.specs.Steps.{readOf, refusing, taking, begun, unlessFault, stepped, nextRun, goneOn}
+use Rattle.reader.specs.Steps.{Known, closing, Gives}
 use Rattle.grid.proofs.Cases.{never}
-use Rattle.reader.proofs.Ends.{EndOf, end-self, end-next, end-trans, end-place, end-length}
-use Rattle.reader.proofs.GroupLaws.{read-rest}
+use Rattle.groups.proofs.Ends.{EndOf, end-self, end-next, end-trans, end-place, end-length}
+use Rattle.groups.proofs.GroupLaws.{read-rest}
 use Rattle.reader.proofs.WalkLaws.{walk-none, walk-more, walk-took, form-parts}
 use Rattle.reader.proofs.LayoutLaws.{known-after, start-known}
 
@@ -47,8 +48,13 @@ pub gives-ending : {read : Source} → Ending read → (a xs b : List ℕ) → G
 gives-ending ending a [] b g = rw g (end-self b)
 gives-ending ending a (x ∷ xs) b g = end-trans b (g .0) a (gives-ending ending (g .0) xs b (g .2)) (ending a x (g .0) (g .1))
 
-pub begun-ready : (n : ℕ) → Ready n begun
-begun-ready n = record { within = omega arith; known = start-known }
+-- The number at a place of a list.
+pub entry-there : (list : List ℕ) (at v : ℕ) → at < length list → v ≡ getD list at 0 →
+    Got.Number v (at + 1) ≡ placed (length list) (readHead (drop at list))
+entry-there list at v h e = rw (drop-cons list at 0 h, e, length-drop (suc at) list) (ap (Got.Number (getD list at 0)) (omega arith))
+
+pub entry-ends : (list : List ℕ) (at : ℕ) → length list ≤ at → Got.Ends ≡ placed (length list) (readHead (drop at list))
+entry-ends list at h = rw (drop-of-length-le list h)
 
 -- A fault refuses, and no fault passes.
 pub fault-refuses : (w v : ℕ) (r : Run) → w ≡ v → 0 < w → refusing w ≡ unlessFault v r
@@ -68,32 +74,32 @@ module _ (p : Document) (read : Source) (l : List ℕ) where
   gone-refused zero r e = refl
   gone-refused (suc k) r e = ap (goneOn p read l k) (next-refused r e) ∙ gone-refused k r e
 
-  -- A run that can go on can go on after one number more, one place on.
+  -- A run whose state is known has a known state after one number more, one place on.
   abbrev Goes : State → Run → Type 0
-  Goes s r = Ready (length l) r × (r .state .place ≤ s .place + 1)
+  Goes s r = Known (r .state) × (r .state .place ≤ s .place + 1)
 
   refused-goes : (s : State) (w : ℕ) → Goes s (refusing w)
-  refused-goes s w = (record { within = omega arith; known = start-known }, omega arith)
+  refused-goes s w = (start-known, omega arith)
 
   step-goes : (s : State) (g : Read) → Known s → Goes s (stepped p s (placed (length l) g))
   step-goes s (Number x rest) k = go (faultIn p s x) refl
     where
       go : (w : ℕ) → faultIn p s x ≡ w → Goes s (unlessFault w (taking (afterIn p s x) (length l - length rest)))
-      go zero e = let a = known-after p s x k e in (record { within = omega arith; known = a .0 }, omega (arith, a .1))
+      go zero e = let a = known-after p s x k e in (a .0, omega (arith, a .1))
       go (suc w) e = refused-goes s (suc w)
-  step-goes s Ends k = refused-goes s _
-  step-goes s TooLong k = refused-goes s _
-  step-goes s Padded k = refused-goes s _
+  step-goes s Ends k = refused-goes s (refusalsOf p .ends)
+  step-goes s TooLong k = refused-goes s (refusalsOf p .long)
+  step-goes s Padded k = refused-goes s (refusalsOf p .padded)
 
-  next-goes : (r : Run) → Ready (length l) r → Goes (r .state) (nextRun p read l r)
+  next-goes : (r : Run) → Known (r .state) → Goes (r .state) (nextRun p read l r)
   next-goes r h = go (r .refused)
     where
       go : (t : Bool) → Goes (r .state) (cond t r (stepped p (r .state) (placed (length l) (read (drop (r .next) l)))))
       go true = (h, omega arith)
-      go false = step-goes (r .state) (read (drop (r .next) l)) (h .known)
+      go false = step-goes (r .state) (read (drop (r .next) l)) h
 
-  pub gone-goes : (k : ℕ) (r : Run) → Ready (length l) r →
-      Ready (length l) (goneOn p read l k r) × ((goneOn p read l k r) .state .place ≤ r .state .place + k)
+  pub gone-goes : (k : ℕ) (r : Run) → Known (r .state) →
+      Known ((goneOn p read l k r) .state) × ((goneOn p read l k r) .state .place ≤ r .state .place + k)
   unfolding goneOn
   gone-goes zero r h = (h, omega arith)
   gone-goes (suc k) r h =
@@ -101,20 +107,20 @@ module _ (p : Document) (read : Source) (l : List ℕ) where
       let g = gone-goes k (nextRun p read l r) (n .0) in
       (g .0, omega (arith, n .1, g .1))
 
-  -- The run of the first three numbers can go on.
-  pub head-goes : (head : Run) → head ≡ goneOn p read l 3 begun → Ready (length l) head × (head .state .place ≤ 3)
-  head-goes head e = rw e (gone-goes 3 begun (begun-ready (length l)))
+  -- So has the run of the first three numbers.
+  pub head-goes : (head : Run) → head ≡ goneOn p read l 3 begun → Known (head .state) × (head .state .place ≤ 3)
+  head-goes head e = rw e (gone-goes 3 begun start-known)
 
   -- After k numbers: what the whole run comes to is what it comes to from here.
   pub record Running (count : ℕ) (from : Run) (k : ℕ) (run : Run) : Type 0 where
     pub turns : k ≤ count
-    pub ready : Ready (length l) run
+    pub known : Known (run .state)
     pub place : run .state .place ≤ from .state .place + k
     pub same : goneOn p read l (count - k) run ≡ goneOn p read l count from
 
-  pub running-starts : (count : ℕ) (from : Run) → Ready (length l) from → Running count from 0 from
+  pub running-starts : (count : ℕ) (from : Run) → Known (from .state) → Running count from 0 from
   running-starts count from h =
-      let e : count - 0 ≡ count = omega arith in record { turns = omega arith; ready = h; place = omega arith; same = rw e }
+      let e : count - 0 ≡ count = omega arith in record { turns = omega arith; known = h; place = omega arith; same = rw e }
 
   module _ {count : ℕ} {from : Run} {k : ℕ} {run : Run} (r : Running count from k run) where
     pub running-refused : run .refused ≡ true → run ≡ goneOn p read l count from
@@ -134,10 +140,10 @@ module _ (p : Document) (read : Source) (l : List ℕ) where
         let n : nextRun p read l run ≡ more =
         ap (λ (t : Bool). cond t run (stepped p (run .state) (placed (length l) (read (drop (run .next) l))))) f
         ∙ sym (e ∙ ap (stepped p (run .state)) g) in
-        let s = rw n at (next-goes run (r .ready)) in
+        let s = rw n at (next-goes run (r .known)) in
         record {
           turns = omega arith;
-          ready = s .0;
+          known = s .0;
           place = omega (arith, s .1, r .place);
           same = rw (add-one k) (rw n at (at-next h));
         }

@@ -1,37 +1,20 @@
 -- Laws of the settlement's places: what has no fault is short, and after the first three places nothing else is refused.
 use mathlib.Core.Path.{_≡_, refl, sym, ap, _∙_}
-use mathlib.Core.Bool.{Bool, true, false}
 use mathlib.Core.List.{List, [], _∷_}
-use Prim.Native.Nat.{ℕ, zero, suc, _+_, _*_, _^_, _≤_, _<_}
+use Prim.Native.Nat.{ℕ, zero, suc, _+_, _*_, _≤_, _<_}
 use native.Mathlib.Omega.{arith}
-use borrow.Author.Tests.{lt-ltb, ltb-true, eq-eqb, eqb-true}
-use lib.Dec.{ltb, eqb, lit<}
+use borrow.Author.Tests.{eq-eqb, eqb-true}
+use lib.Dec.{eqb, lit<}
 use lib.ListN.{length, getD}
 use Rattle.reader.specs.declared.layout.State.{State}
-use Rattle.reader.specs.Refusals.{settlementRefusals}
-use Rattle.reader.specs.Groups.{groups, pack}
-use Rattle.reader.specs.State.{start, moved, must, first}
-use Rattle.reader.specs.Settlement.{placeFault, settlementFault, placeAfter, settlementAfter}
+use Rattle.checks.specs.Refusals.{settlementRefusals}
+use Rattle.groups.specs.Groups.{pack}
+use Rattle.reader.specs.State.{start, moved}
+use Rattle.reader.specs.Settlement.{placeAfter, settlementAfter}
 use Rattle.reader.specs.Layout.{settlement}
-use Rattle.grid.proofs.Cases.{never}
-use Rattle.reader.proofs.GroupLaws.{encode-short, pack-length}
+use Rattle.groups.proofs.GroupLaws.{encode-short, pack-length}
 use Rattle.reader.proofs.WalkLaws.{Good, Accepted}
-use Rattle.reader.proofs.TicketLaws.{must-holds}
-
--- What has no fault has few groups, and no fault at its place.
-pub settlement-passes : (n m : ℕ) (s : State) (x : ℕ) → settlementFault n m s x ≡ 0 → (x < 128 ^ groups) × (placeFault n m (s .place) x ≡ 0)
-settlement-passes n m s x e = go (ltb x (128 ^ groups)) refl e
-  where
-    go : (t : Bool) → ltb x (128 ^ groups) ≡ t → first (must t (settlementRefusals .long)) (placeFault n m (s .place) x) ≡ 0 →
-        (x < 128 ^ groups) × (placeFault n m (s .place) x ≡ 0)
-    go true l e = (ltb-true x (128 ^ groups) l, e)
-    go false l e = never cc
-
-pub pair-fault : (n m p x : ℕ) → 3 ≤ p → placeFault n m p x ≡ 0
-pair-fault n m zero x h = absurd (omega arith)
-pair-fault n m (suc zero) x h = absurd (omega arith)
-pair-fault n m (suc (suc zero)) x h = absurd (omega arith)
-pair-fault n m (suc (suc (suc p))) x h = refl
+use Rattle.checks.proofs.FaultLaws.{must-holds, settlement-passes, settlement-clear, pair-fault}
 
 pub pair-after : (p : ℕ) (s : State) (x : ℕ) → 3 ≤ p → placeAfter p s x ≡ moved s (s .growers) (s .pilots) (s .cap)
 pair-after zero s x h = absurd (omega arith)
@@ -53,7 +36,7 @@ pub record SettlementShape (xs : List ℕ) (n m : ℕ) : Type 0 where
 
 good-small : (n m : ℕ) (s : State) (xs : List ℕ) → Good (settlement n m) s xs → (i : ℕ) → getD xs i 0 < 16384
 good-small n m s [] g i = lit< tt
-good-small n m s (x ∷ xs) g zero = settlement-passes n m s x (g .0) .0
+good-small n m s (x ∷ xs) g zero = settlement-passes n m (s .place) x (g .0) .0
 good-small n m s (x ∷ xs) g (suc i) = good-small n m (settlementAfter s x) xs (g .1) i
 
 pub accepted-settlement : (n m : ℕ) (xs : List ℕ) → Accepted (settlement n m) xs → SettlementShape xs n m
@@ -64,27 +47,24 @@ accepted-settlement n m (k ∷ x ∷ y ∷ xs) a =
     let g = a .good in
     let s₁ = settlementAfter start k in
     let s₂ = settlementAfter s₁ x in
-    let px = settlement-passes n m s₁ x (g .1 .0) .1 in
-    let py = settlement-passes n m s₂ y (g .1 .1 .0) .1 in
+    let px = settlement-passes n m 1 x (g .1 .0) .1 in
+    let py = settlement-passes n m 2 y (g .1 .1 .0) .1 in
     let ex : x ≡ n = eqb-true x n (must-holds (eqb x n) (settlementRefusals .parties) (lit< tt) px) in
     let ey : y ≡ m = eqb-true y m (must-holds (eqb y m) (settlementRefusals .parties) (lit< tt) py) in
     let c : suc (suc (suc (length xs))) ≡ 3 + 3 * (x * y) = a .count in
     record {
       count = rw (← ex, ← ey) c;
-      kind = eqb-true k 2 (must-holds (eqb k 2) (settlementRefusals .kind) (lit< tt) (settlement-passes n m start k (g .0) .1));
+      kind = eqb-true k 2 (must-holds (eqb k 2) (settlementRefusals .kind) (lit< tt) (settlement-passes n m 0 k (g .0) .1));
       growers = ex;
       pilots = ey;
       small = good-small n m start (k ∷ x ∷ y ∷ xs) g;
     }
 
-settlement-clear : (n m : ℕ) (s : State) (x : ℕ) → x < 128 ^ groups → placeFault n m (s .place) x ≡ 0 → settlementFault n m s x ≡ 0
-settlement-clear n m s x h e = rw (lt-ltb x (128 ^ groups) h) e
-
 pairs-good : (n m : ℕ) (s : State) (xs : List ℕ) → 3 ≤ s .place → ((i : ℕ) → getD xs i 0 < 16384) → Good (settlement n m) s xs
 pairs-good n m s [] h w = tt
 pairs-good n m s (x ∷ xs) h w =
     let e = ap (λ (t : State). t .place) (pair-after (s .place) s x h) in (
-      settlement-clear n m s x (w 0) (pair-fault n m (s .place) x h),
+      settlement-clear n m (s .place) x (w 0) (pair-fault n m (s .place) x h),
       pairs-good n m (settlementAfter s x) xs (omega (arith, e)) (λ i. w (suc i)),
     )
 
@@ -100,11 +80,11 @@ settlement-accepts n m (k ∷ x ∷ y ∷ xs) a =
     let c : suc (suc (suc (length xs))) ≡ 3 + 3 * (n * m) = a .count in
     record {
       good = (
-        settlement-clear n m start k (a .small 0) (rw (eq-eqb k 2 (a .kind))),
+        settlement-clear n m 0 k (a .small 0) (rw (eq-eqb k 2 (a .kind))),
         (
-          settlement-clear n m s₁ x (a .small 1) (rw (eq-eqb x n ex)),
+          settlement-clear n m 1 x (a .small 1) (rw (eq-eqb x n ex)),
           (
-            settlement-clear n m s₂ y (a .small 2) (rw (eq-eqb y m ey)),
+            settlement-clear n m 2 y (a .small 2) (rw (eq-eqb y m ey)),
             pairs-good n m (settlementAfter s₂ y) xs (omega arith) (λ i. a .small (suc (suc (suc i)))),
           ),
         ),

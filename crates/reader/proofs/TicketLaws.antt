@@ -10,18 +10,19 @@ use borrow.Author.Tests.{lt-ltb, le-ltb, leb-true, eqb-true}
 use lib.Dec.{leb, ltb, eqb, lit<, lit≤}
 use lib.ListN.{length, getD, take, drop}
 use lib.Seq.{drop-cons, length-take-le}
-use Rattle.reader.specs.declared.ticket.Field.{Field}
-use Rattle.reader.specs.declared.ticket.Field.the-variants.{Kind, Growers, Pilots, Hours, TariffCap, TariffGain, TariffPay, FreeCap}
-use Rattle.reader.specs.declared.ticket.Field.the-variants.{FreeGain}
+use Rattle.checks.specs.declared.ticket.Field.{Field}
+use Rattle.checks.specs.declared.ticket.Field.the-variants.{Kind, Growers, Pilots, Hours, TariffCap, TariffGain, TariffPay, FreeCap}
+use Rattle.checks.specs.declared.ticket.Field.the-variants.{FreeGain}
 use Rattle.reader.specs.declared.layout.State.{State}
-use Rattle.reader.specs.Refusals.{ticketRefusals, hoursAboveLimit, aboveLimit, amountWithoutCap}
-use Rattle.reader.specs.Groups.{encode, groups, pack}
+use Rattle.checks.specs.Refusals.{ticketRefusals, aboveLimit, must}
+use Rattle.checks.specs.TicketFaults.{amountFault, faultOf}
+use Rattle.checks.proofs.FaultLaws.{must-holds, party-range, amount-range, amount-none, mostOf, field-range}
+use Rattle.groups.specs.Groups.{encode, groups, pack}
 use Rattle.reader.specs.Walk.{final}
-use Rattle.reader.specs.State.{must, first, start, moved}
-use Rattle.reader.specs.Ticket.{dealField, placeField, fieldOf, partyFault, capFault, amountFault, faultOf, afterOf, ticketFault}
+use Rattle.reader.specs.State.{start, moved}
+use Rattle.reader.specs.Ticket.{dealField, placeField, fieldOf, afterOf, ticketFault}
 use Rattle.reader.specs.Layout.{ticket}
-use Rattle.grid.proofs.Cases.{never}
-use Rattle.reader.proofs.GroupLaws.{encode-short, pack-length}
+use Rattle.groups.proofs.GroupLaws.{encode-short, pack-length}
 use Rattle.reader.proofs.WalkLaws.{Good, Accepted, good-at, good-drop}
 
 -- The field of a place after the first three.
@@ -50,63 +51,22 @@ pair-place s h =
 
 -- A pair has its caps in the first field and in the fourth, and amounts in the others.
 pub cap-fields : (k : ℕ) (s : State) (x : ℕ) → (k ≡ 0) ⊎ (k ≡ 3) →
-    (must (leb x 60) aboveLimit ≡ faultOf (dealField k) s x) × (moved s (s .growers) (s .pilots) x ≡ afterOf (dealField k) s x)
+    (must (leb x 60) aboveLimit ≡ faultOf (dealField k) (s .cap) x) × (moved s (s .growers) (s .pilots) x ≡ afterOf (dealField k) s x)
 cap-fields k s x h = ⊎-elim (λ e. rw e (refl, refl)) (λ e. rw e (refl, refl)) h
 
 pub amount-fields : (k : ℕ) (s : State) (x : ℕ) → ((k ≡ 0) ⊎ (k ≡ 3) → ⊥) →
-    (amountFault (s .cap) x ≡ faultOf (dealField k) s x) × (moved s (s .growers) (s .pilots) (s .cap) ≡ afterOf (dealField k) s x)
+    (amountFault (s .cap) x ≡ faultOf (dealField k) (s .cap) x) × (moved s (s .growers) (s .pilots) (s .cap) ≡ afterOf (dealField k) s x)
 amount-fields zero s x h = absurd (h (inl refl))
 amount-fields (suc zero) s x h = (refl, refl)
 amount-fields (suc (suc zero)) s x h = (refl, refl)
 amount-fields (suc (suc (suc zero))) s x h = absurd (h (inr refl))
 amount-fields (suc (suc (suc (suc k)))) s x h = (refl, refl)
 
--- A test that must hold and whose refusal is not met holds.
-pub must-holds : (t : Bool) (w : ℕ) → 0 < w → must t w ≡ 0 → t ≡ true
-must-holds true w h e = refl
-must-holds false w h e = absurd (omega arith)
-
-party-range : (x : ℕ) → partyFault (ticketRefusals .parties) x ≡ 0 → (1 ≤ x) × (x ≤ 16)
-party-range x e = go (leb 1 x) refl e
-  where
-    go : (t : Bool) → leb 1 x ≡ t → cond t (must (leb x 16) (ticketRefusals .parties)) (ticketRefusals .parties) ≡ 0 → (1 ≤ x) × (x ≤ 16)
-    go true l e = (leb-true 1 x l, leb-true x 16 (must-holds (leb x 16) (ticketRefusals .parties) (lit< tt) e))
-    go false l e = never cc
-
-amount-range : (cap x : ℕ) → amountFault cap x ≡ 0 → x ≤ 500
-amount-range cap x e = go (leb x 500) refl e
-  where
-    go : (t : Bool) → leb x 500 ≡ t → first (must t aboveLimit) (capFault cap x) ≡ 0 → x ≤ 500
-    go true l e = leb-true x 500 l
-    go false l e = never cc
-
--- The largest number of a field, and the groups that it takes.
-abbrev pub mostOf : Field → ℕ
-mostOf Kind = 1
-mostOf Growers = 16
-mostOf Pilots = 16
-mostOf Hours = 60
-mostOf TariffCap = 60
-mostOf TariffGain = 500
-mostOf TariffPay = 500
-mostOf FreeCap = 60
-mostOf FreeGain = 500
-
+-- The groups that the largest number of a field takes.
 abbrev pub groupsOf : Field → ℕ
 groupsOf f = cond (ltb (mostOf f) 128) 1 2
 
-pub field-range : (f : Field) (s : State) (x : ℕ) → faultOf f s x ≡ 0 → x ≤ mostOf f
-field-range Kind s x e = omega (arith, eqb-true x 1 (must-holds (eqb x 1) (ticketRefusals .kind) (lit< tt) e))
-field-range Growers s x e = party-range x e .1
-field-range Pilots s x e = party-range x e .1
-field-range Hours s x e = leb-true x 60 (must-holds (leb x 60) hoursAboveLimit (lit< tt) e)
-field-range TariffCap s x e = leb-true x 60 (must-holds (leb x 60) aboveLimit (lit< tt) e)
-field-range TariffGain s x e = amount-range (s .cap) x e
-field-range TariffPay s x e = amount-range (s .cap) x e
-field-range FreeCap s x e = leb-true x 60 (must-holds (leb x 60) aboveLimit (lit< tt) e)
-field-range FreeGain s x e = amount-range (s .cap) x e
-
--- It fits its groups, and they are few enough for a file.
+-- The number fits them, and they are few enough for a file.
 field-fits : (f : Field) → (mostOf f < 128 ^ groupsOf f) × (groupsOf f ≤ groups) × (0 < groupsOf f)
 field-fits Kind = (lit< tt, lit≤ tt, lit< tt)
 field-fits Growers = (lit< tt, lit≤ tt, lit< tt)
@@ -121,13 +81,13 @@ field-fits FreeGain = (lit< tt, lit≤ tt, lit< tt)
 pub ticket-small : (s : State) (x : ℕ) → ticketFault s x ≡ 0 → x < 128 ^ groups
 ticket-small s x e =
     let f = field-fits (fieldOf s) in
-    omega (arith, field-range (fieldOf s) s x e, f .0, pow-le-pow-right {n = 128} (omega arith) (f .1))
+    omega (arith, field-range (fieldOf s) (s .cap) x e, f .0, pow-le-pow-right {n = 128} (omega arith) (f .1))
 
 -- The bytes of one number.
 number-size : (s : State) (x : ℕ) → ticket .fault s x ≡ 0 → length (encode x) ≤ groupsOf (fieldOf s)
 number-size s x e =
     let f = field-fits (fieldOf s) in
-    encode-short (groupsOf (fieldOf s)) x (f .2) (omega (arith, field-range (fieldOf s) s x e, f .0))
+    encode-short (groupsOf (fieldOf s)) x (f .2) (omega (arith, field-range (fieldOf s) (s .cap) x e, f .0))
 
 -- The most bytes of k numbers from a place on: a run of hours takes one each, and the five numbers of a pair take eight.
 abbrev pub room : ℕ → ℕ → ℕ → ℕ → ℕ
@@ -275,7 +235,7 @@ ticket-hours k n m xs g q h l =
     let e = good-at ticket start (k ∷ n ∷ m ∷ xs) (suc (suc (suc q))) (omega arith) g in
     let f : fieldOf s ≡ Hours =
     rw (t .growers, t .pilots, t .place) (place-after n m (3 + q) (omega arith) ∙ rw (lt-ltb (3 + q - 3) (n + m) (omega arith))) in
-    rw f at (field-range (fieldOf s) s (getD xs q 0) e)
+    rw f at (field-range (fieldOf s) (s .cap) (getD xs q 0) e)
 
 -- The five numbers of a pair: caps at most 60, amounts at most 500, and none where the cap is 0.
 pub record Deal (tariffCap tariffGain tariffPay freeCap freeGain : ℕ) : Type 0 where
@@ -286,13 +246,6 @@ pub record Deal (tariffCap tariffGain tariffPay freeCap freeGain : ℕ) : Type 0
   pub freeGainCapped : freeGain ≤ 500
   pub noTariff : tariffCap ≡ 0 → (tariffGain ≡ 0) × (tariffPay ≡ 0)
   pub noFree : freeCap ≡ 0 → freeGain ≡ 0
-
-amount-none : (cap x : ℕ) → amountFault cap x ≡ 0 → cap ≡ 0 → x ≡ 0
-amount-none cap x e z = go (leb x 500) (rw z at e)
-  where
-    go : (t : Bool) → first (must t aboveLimit) (must (eqb x 0) amountWithoutCap) ≡ 0 → x ≡ 0
-    go true e = eqb-true x 0 (must-holds (eqb x 0) amountWithoutCap (lit< tt) e)
-    go false e = never cc
 
 deal-good : (s : State) (q a b c d e : ℕ) (xs : List ℕ) → s .place ≡ 3 + s .growers + s .pilots + 5 * q →
     Good ticket s (a ∷ b ∷ c ∷ d ∷ e ∷ xs) → Deal a b c d e

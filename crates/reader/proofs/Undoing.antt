@@ -4,11 +4,11 @@ use mathlib.Core.List.{List, [], _∷_, _++_, append-assoc, append-nil}
 use Prim.Native.Nat.{ℕ, _+_, _^_, _<_}
 use lib.ListN.{length}
 use lib.Seq.{getD-append-add}
-use Rattle.reader.specs.Groups.{readGroups, encode, pack, Bytes}
+use Rattle.groups.specs.Groups.{readGroups, encode, pack, Bytes}
 use Rattle.reader.specs.Walk.{Form, readHead, form, Numbers}
 use Rattle.reader.specs.Steps.{Gives}
 use Rattle.grid.proofs.Cases.{never}
-use Rattle.reader.proofs.GroupLaws.{encode-reads, read-encodes}
+use Rattle.groups.proofs.GroupLaws.{encode-reads, read-encodes}
 use Rattle.reader.proofs.WalkLaws.{Good, form-accepts, accepts-form}
 
 -- Plain numbers give themselves, and only those.

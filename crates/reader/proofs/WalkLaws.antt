@@ -7,8 +7,8 @@ use native.Mathlib.Nat.{not-suc-le-zero, le-of-suc-le-suc}
 use native.Mathlib.Omega.{arith}
 use lib.ListN.{length, getD, take, drop, length-append, length-drop, take-append-drop}
 use lib.Seq.{take-at, length-take-le}
-use Rattle.reader.specs.declared.refusals.Refusals.{Refusals}
-use Rattle.reader.specs.Groups.{Read, Number, Ends, TooLong, Padded}
+use Rattle.checks.specs.declared.refusals.Refusals.{Refusals}
+use Rattle.groups.specs.Groups.{Read, Number, Ends, TooLong, Padded}
 use Rattle.reader.specs.Walk.{Form, Taken, Refused, Took, Numbers, Source, met, unless, with, next, closed, final, walk, rest, form}
 use Rattle.reader.specs.Steps.{Gives}
 use Rattle.grid.proofs.Cases.{never}

@@ -6,8 +6,8 @@ use native.Mathlib.Numerals.{add-one}
 use native.Mathlib.Omega.{arith}
 use lib.ListN.{length, set, length-set}
 use lib.Seq.{sets}
-use Rattle.reader.specs.Groups.{encode}
-use Rattle.reader.proofs.GroupLaws.{encode-last, encode-more, encode-some}
+use Rattle.groups.specs.Groups.{encode}
+use Rattle.groups.proofs.GroupLaws.{encode-last, encode-more, encode-some}
 
 -- What is left, written here, makes what the whole number makes.
 pub record Writing (out₀ out : List ℕ) (x at left here : ℕ) : Type 0 where
@@ -31,17 +31,3 @@ module _ {out₀ out : List ℕ} {x at left here : ℕ} (r : Writing out₀ out 
 
   pub writing-ends : left < 128 → (set out here left ≡ sets out₀ at (encode x)) × (here + 1 ≡ at + length (encode x))
   writing-ends h = (rw (encode-last left h) at (r .same), omega (arith, r .ends, ap length (encode-last left h)))
-
--- Counting the bytes: n of them before what is left.
-pub record Sizing (x left n : ℕ) : Type 0 where
-  pub ends : n + length (encode left) ≡ 1 + length (encode x)
-  pub small : n + left ≤ x + 1
-
-pub sizing-starts : (x : ℕ) → Sizing x x 1
-sizing-starts x = record { ends = refl; small = omega arith }
-
-pub sizing-turns : (x left n : ℕ) → Sizing x left n → 128 ≤ left → Sizing x (left / 128) (n + 1)
-sizing-turns x left n r h = record { ends = omega (arith, r .ends, ap length (encode-more left h)); small = omega (arith, r .small) }
-
-pub sizing-ends : (x left n : ℕ) → Sizing x left n → left < 128 → n ≡ length (encode x)
-sizing-ends x left n r h = omega (arith, r .ends, ap length (encode-last left h))

@@ -6,8 +6,8 @@ use lib.Dec.{leb}
 use lib.ListN.{length}
 use lib.Seq.{sets}
 use Rattle.reader.specs.declared.Reply.{Reply}
-use Rattle.reader.specs.Refusals.{noRoom}
-use Rattle.reader.specs.Groups.{bytes, pack}
+use Rattle.checks.specs.Refusals.{noRoom}
+use Rattle.groups.specs.Groups.{bytes, pack}
 use Rattle.reader.specs.Walk.{Outcome, Refusal, Numbers, readHead, form}
 use Rattle.reader.specs.Layout.{ticket, settlement}
 use Rattle.reader.specs.Values.{Values, refusedWith, doneWith, Replied}

@@ -1,16 +1,17 @@
 -- The two documents as forms of one walk.
 use Prim.Native.Nat.{ℕ}
-use Rattle.reader.specs.declared.refusals.Document.{Document}
+use Rattle.checks.specs.declared.refusals.Document.{Document}
 use Rattle.reader.specs.declared.layout.State.{State}
-use Rattle.reader.specs.Refusals.{refusalsOf}
+use Rattle.checks.specs.Refusals.{refusalsOf}
+use Rattle.checks.specs.SettlementFaults.{settlementFault}
 use Rattle.reader.specs.Walk.{Form}
 use Rattle.reader.specs.State.{start}
 use Rattle.reader.specs.Ticket.{ticketFault, ticketAfter, ticketBody}
-use Rattle.reader.specs.Settlement.{settlementFault, settlementAfter, settlementBody}
+use Rattle.reader.specs.Settlement.{settlementAfter, settlementBody}
 
 abbrev pub faultIn : Document → State → ℕ → ℕ
 faultIn Document.Ticket s x = ticketFault s x
-faultIn (Document.Settlement n m) s x = settlementFault n m s x
+faultIn (Document.Settlement n m) s x = settlementFault n m (s .place) x
 
 abbrev pub afterIn : Document → State → ℕ → State
 afterIn Document.Ticket s x = ticketAfter s x

@@ -1,6 +1,4 @@
 -- The definitions that the contracts of `reader` cite, each file over those above it. The laws about them stand in proofs/.
-pub mod Refusals
-pub mod Groups
 pub mod Walk
 pub mod State
 pub mod Ticket

@@ -1,28 +1,21 @@
--- What the private functions answer: a number at a place of a slice, and a run over some numbers of a document.
+-- What the private functions answer: a number at a place of a source, and a run over some numbers of a document.
 use mathlib.Core.Path.{_≡_}
 use mathlib.Core.Bool.{true, false, cond}
 use mathlib.Core.List.{List, [], _∷_}
-use Prim.Native.Nat.{ℕ, zero, suc, _+_, _-_, _*_, _^_, _≤_, _<_}
+use Prim.Native.Nat.{ℕ, zero, suc, _+_, _*_, _^_, _<_}
 use lib.Dec.{ltb}
 use lib.ListN.{length, getD, drop}
-use Rattle.reader.specs.declared.refusals.Document.{Document}
-use Rattle.reader.specs.declared.groups.Got.{Got}
+use Rattle.checks.specs.declared.refusals.Document.{Document}
+use Rattle.groups.specs.declared.Got.{Got}
 use Rattle.reader.specs.declared.layout.State.{State}
 use Rattle.reader.specs.declared.scan.SourceKind.{SourceKind}
 use Rattle.reader.specs.declared.scan.Run.{Run}
 use Rattle.reader.specs.declared.Reply.{Reply}
-use Rattle.reader.specs.Refusals.{refusalsOf}
-use Rattle.reader.specs.Groups.{Read, Number, Ends, TooLong, Padded, groups, bytes}
+use Rattle.checks.specs.Refusals.{refusalsOf}
+use Rattle.groups.specs.Groups.{Read, Number, Ends, TooLong, Padded, groups, bytes, placed}
 use Rattle.reader.specs.Walk.{Source, readHead}
 use Rattle.reader.specs.State.{start}
 use Rattle.reader.specs.Layout.{faultIn, afterIn}
-
--- What was read of the end of n bytes, with the place after the number.
-abbrev pub placed : ℕ → Read → Got
-placed n (Number x rest) = Got.Number x (n - length rest)
-placed n Ends = Got.Ends
-placed n TooLong = Got.TooLong
-placed n Padded = Got.Padded
 
 -- How a kind of source is read, and which of some bytes and a list it is.
 abbrev pub readOf : SourceKind → Source
@@ -81,11 +74,6 @@ nextRun p read s r = cond (r .refused) r (stepped p (r .state) (placed (length s
 unfoldable pub goneOn : Document → Source → List ℕ → ℕ → Run → Run
 goneOn p read s zero r = r
 goneOn p read s (suc k) r = goneOn p read s k (nextRun p read s r)
-
--- A run that can go on in a source of n places.
-pub record Ready (n : ℕ) (r : Run) : Type 0 where
-  pub within : r .next ≤ n
-  pub known : Known (r .state)
 
 -- The answer of a run over a whole document, of which `count` numbers follow the first three, in a source of n places.
 abbrev pub closing : Document → ℕ → ℕ → Run → Reply

@@ -1,13 +1,13 @@
--- The ticket: the field that stands at each place, what is wrong with a number there, and how many numbers there are.
+-- The ticket: the field that stands at each place, the state after a number there, and how many numbers there are.
 use mathlib.Core.Bool.{cond}
 use Prim.Native.Nat.{ℕ, zero, suc, _+_, _-_, _*_, _%_}
-use lib.Dec.{leb, ltb, eqb}
-use Rattle.reader.specs.declared.ticket.Field.{Field}
-use Rattle.reader.specs.declared.ticket.Field.the-variants.{Kind, Growers, Pilots, Hours, TariffCap, TariffGain, TariffPay, FreeCap}
-use Rattle.reader.specs.declared.ticket.Field.the-variants.{FreeGain}
+use lib.Dec.{ltb}
+use Rattle.checks.specs.declared.ticket.Field.{Field}
+use Rattle.checks.specs.declared.ticket.Field.the-variants.{Kind, Growers, Pilots, Hours, TariffCap, TariffGain, TariffPay, FreeCap}
+use Rattle.checks.specs.declared.ticket.Field.the-variants.{FreeGain}
 use Rattle.reader.specs.declared.layout.State.{State}
-use Rattle.reader.specs.Refusals.{ticketRefusals, hoursAboveLimit, aboveLimit, amountWithoutCap}
-use Rattle.reader.specs.State.{must, first, moved}
+use Rattle.checks.specs.TicketFaults.{faultOf}
+use Rattle.reader.specs.State.{moved}
 
 -- The five numbers of a pair.
 abbrev pub dealField : ℕ → Field
@@ -27,30 +27,6 @@ placeField n m (suc (suc (suc p))) = cond (ltb p (n + m)) Hours (dealField ((p -
 abbrev pub fieldOf : State → Field
 fieldOf s = placeField (s .growers) (s .pilots) (s .place)
 
--- Growers and pilots are 1 to 16.
-abbrev pub partyFault : ℕ → ℕ → ℕ
-partyFault w x = cond (leb 1 x) (must (leb x 16) w) w
-
--- In a deal of cap 0 an amount is 0.
-abbrev pub capFault : ℕ → ℕ → ℕ
-capFault cap x = cond (eqb cap 0) (must (eqb x 0) amountWithoutCap) 0
-
--- An amount is at most 500. The cap is tested after that.
-abbrev pub amountFault : ℕ → ℕ → ℕ
-amountFault cap x = first (must (leb x 500) aboveLimit) (capFault cap x)
-
--- What is wrong with x in a field of a state; 0 if nothing is.
-abbrev pub faultOf : Field → State → ℕ → ℕ
-faultOf Kind s x = must (eqb x 1) (ticketRefusals .kind)
-faultOf Growers s x = partyFault (ticketRefusals .parties) x
-faultOf Pilots s x = partyFault (ticketRefusals .parties) x
-faultOf Hours s x = must (leb x 60) hoursAboveLimit
-faultOf TariffCap s x = must (leb x 60) aboveLimit
-faultOf TariffGain s x = amountFault (s .cap) x
-faultOf TariffPay s x = amountFault (s .cap) x
-faultOf FreeCap s x = must (leb x 60) aboveLimit
-faultOf FreeGain s x = amountFault (s .cap) x
-
 -- The state after x in a field.
 abbrev pub afterOf : Field → State → ℕ → State
 afterOf Kind s x = moved s (s .growers) (s .pilots) (s .cap)
@@ -64,7 +40,7 @@ afterOf FreeCap s x = moved s (s .growers) (s .pilots) x
 afterOf FreeGain s x = moved s (s .growers) (s .pilots) (s .cap)
 
 abbrev pub ticketFault : State → ℕ → ℕ
-ticketFault s x = faultOf (fieldOf s) s x
+ticketFault s x = faultOf (fieldOf s) (s .cap) x
 
 abbrev pub ticketAfter : State → ℕ → State
 ticketAfter s x = afterOf (fieldOf s) s x

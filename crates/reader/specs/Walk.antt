@@ -2,8 +2,8 @@
 -- A source is a list, and a way to read its next number: bytes in groups, or plain numbers.
 use mathlib.Core.List.{List, [], _∷_, _++_}
 use Prim.Native.Nat.{ℕ, zero, suc}
-use Rattle.reader.specs.declared.refusals.Refusals.{Refusals}
-use Rattle.reader.specs.Groups.{Read, Number, Ends, TooLong, Padded}
+use Rattle.checks.specs.declared.refusals.Refusals.{Refusals}
+use Rattle.groups.specs.Groups.{Read, Number, Ends, TooLong, Padded}
 
 -- What is laid down for a form: the refusal of a number in a state (0 for none), the state after it,
 -- how many numbers come first, how many follow once the first are known, and the refusals that every form has.

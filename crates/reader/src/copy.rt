@@ -1,23 +1,22 @@
 // A document's bytes copied into a list, and a list into bytes: a scan first, then the room, then what can no longer fail.
 ghost use mathlib.Core.Path.{_≡_};
-ghost use Prim.Native.Nat.{_≤_};
+ghost use Prim.Native.Nat.{_+_, _≤_};
 ghost use lib.ListN.{length};
 ghost use lib.Seq.{sets};
-ghost use Rattle.reader.specs.Groups.{bytes, pack};
+ghost use Rattle.groups.specs.Groups.{encode, bytes, pack};
 ghost use Rattle.reader.specs.Walk.{readHead, form};
 ghost use Rattle.reader.specs.Layout.{formOf};
 ghost use Rattle.reader.specs.Steps.{mostBytes, firstNumbers, Fillable};
 ghost use Rattle.reader.specs.Answer.{packedAs, Tells, kept};
 use crate::Reply;
-use crate::groups::Got;
-use crate::groups::number;
-use crate::groups::size;
-use crate::groups::wide16;
-use crate::groups::write;
-use crate::refusals::Document;
-use crate::refusals::NO_ROOM;
 use crate::scan::SourceKind;
 use crate::scan::scan;
+use checks::Document;
+use checks::NO_ROOM;
+use groups::Got;
+use groups::number;
+use groups::size;
+use numbers::index;
 
 // Writes the first numbers of bytes that were scanned to the front of a list.
 fn fill(s: &[u8], list: &mut [u16], count: usize)
@@ -43,9 +42,25 @@ fn size_all(list: &[u16]) -> usize
 {
     let mut total: usize = 0;
     for k in 0..list.len() {
-        total = total + size(wide16(list[k]));
+        total = total + size(index(list[k]));
     }
     total
+}
+
+// Writes a number at a place and returns the place after it.
+fn write(x: usize, out: &mut [u8], at: usize) -> usize
+    requires { ⌜ at + length (encode x) ≤ length (now out) ⌝ }
+    ensures { λ r. ⌜ (now (out .exit) ≡ sets (now (out .entry)) at (encode x)) × (r ≡ at + length (encode x)) ⌝ }
+{
+    let mut left = x;
+    let mut here = at;
+    while 128 <= left {
+        out[here] = (128 + left % 128) as u8;
+        left = left / 128;
+        here = here + 1;
+    }
+    out[here] = left as u8;
+    here + 1
 }
 
 // Writes a list's bytes to the front of a buffer.
@@ -55,7 +70,7 @@ fn write_all(list: &[u16], out: &mut [u8])
 {
     let mut here: usize = 0;
     for k in 0..list.len() {
-        here = write(wide16(list[k]), out, here);
+        here = write(index(list[k]), out, here);
     }
 }
 

@@ -1,12 +1,12 @@
 // The two documents behind one state: what is wrong with a number at its place, the state after it, and how many numbers follow.
 ghost use mathlib.Core.Path.{_≡_};
 ghost use Prim.Native.Nat.{_+_, _*_, _<_, _≤_};
-ghost use Rattle.reader.specs.State.{start, must, first, moved};
+ghost use Rattle.reader.specs.State.{start, moved};
 ghost use Rattle.reader.specs.Layout.{faultIn, afterIn, bodyIn};
 ghost use Rattle.reader.specs.Steps.{Known, mostPlaces, mostPairs};
-use crate::refusals::Document;
 use crate::settlement::settlement_check;
 use crate::ticket::ticket_check;
+use checks::Document;
 
 // How many numbers a document has before its growers and pilots are known.
 pub(crate) const HEAD: usize = 3;
@@ -35,20 +35,6 @@ pub(crate) fn start() -> State
         pilots: 0,
         cap: 0,
     }
-}
-
-// No refusal if a test holds.
-pub(crate) fn must(ok: bool, why: u8) -> u8
-    ensures { λ r. ⌜ r ≡ must ok why ⌝ }
-{
-    if ok { 0 } else { why }
-}
-
-// The first of two refusals that is one.
-pub(crate) fn first(a: u8, b: u8) -> u8
-    ensures { λ r. ⌜ r ≡ first a b ⌝ }
-{
-    if a == 0 { b } else { a }
 }
 
 // The next place, with what is known there.

@@ -5,19 +5,17 @@ ghost use lib.ListN.{length};
 ghost use Rattle.reader.specs.Answer.{unpacked, packed, settlementRead, settlementPacked, Tells, kept};
 
 mod copy; // copy.rt: the passes that write, after a scan that refused nothing
-mod groups; // groups.rt: numbers as groups of seven bits
 mod layout; // layout.rt: the two documents behind one state: the fault of a number, the state after it, how many follow
-mod refusals; // refusals.rt: the refusal numbers
 mod scan; // scan.rt: the walk over a whole document, which writes nothing
 mod settlement; // settlement.rt: the places of a settlement
 mod ticket; // ticket.rt: the places of a ticket
 
+use checks::Document;
 use copy::deliver;
 use copy::receive;
-use refusals::Document;
 
 // The refusal for a lent buffer that is too short.
-pub use refusals::NO_ROOM;
+pub use checks::NO_ROOM;
 
 // What an operation answers: the refusal, or how many numbers or bytes it wrote.
 pub enum Reply {

@@ -1,23 +1,23 @@
 // The walk over a whole document, of bytes or of a list: it finds the first refusal in file order, and writes nothing.
 ghost use mathlib.Core.Path.{_≡_};
 ghost use Prim.Native.Nat.{_+_, _<_, _≤_};
-ghost use lib.ListN.{length};
-ghost use Rattle.reader.specs.Walk.{form};
+ghost use lib.ListN.{length, drop};
+ghost use Rattle.groups.specs.Groups.{placed};
+ghost use Rattle.reader.specs.Walk.{readHead, form};
 ghost use Rattle.reader.specs.Layout.{formOf};
-ghost use Rattle.reader.specs.Steps.{Known, Ready, mostPlaces, heldIn, readOf, gotAt};
+ghost use Rattle.reader.specs.Steps.{Known, mostPlaces, heldIn, readOf, gotAt};
 ghost use Rattle.reader.specs.Steps.{refusing, begun, stepped, goneOn, closing};
 ghost use Rattle.reader.specs.Answer.{counted};
 use crate::Reply;
-use crate::groups::Got;
-use crate::groups::entry;
-use crate::groups::number;
 use crate::layout::HEAD;
 use crate::layout::State;
 use crate::layout::body_of;
 use crate::layout::check;
 use crate::layout::start;
-use crate::refusals::Document;
-use crate::refusals::refusals_of;
+use checks::Document;
+use checks::refusals_of;
+use groups::Got;
+use groups::number;
 
 // What a part of a document comes to: the refusal, or the place and the state after it.
 // A struct and no enum, since a state may come to hold an array.
@@ -98,9 +98,22 @@ fn length_of(source: SourceKind, s: &[u8], list: &[u16]) -> usize
     }
 }
 
+// The number at a place of a list.
+fn entry(list: &[u16], at: usize) -> Got
+    ensures { λ r. ⌜ r ≡ placed (length (now (list .entry))) (readHead (drop at (now (list .entry)))) ⌝ }
+{
+    if at < list.len() {
+        Got::Number {
+            value: numbers::index(list[at]),
+            next: at + 1,
+        }
+    } else {
+        Got::Ends
+    }
+}
+
 // The number at a place of a source.
 fn read(source: SourceKind, s: &[u8], list: &[u16], at: usize) -> Got
-    requires { ⌜ at ≤ length (heldIn source (now s) (now list)) ⌝ }
     ensures { λ r. ⌜ r ≡ gotAt source (heldIn source (now (s .entry)) (now (list .entry))) at ⌝ }
 {
     match source {
@@ -118,7 +131,7 @@ fn walk(
     count: usize,
     from: Run,
 ) -> Run
-    requires { ⌜ Ready (length (heldIn source (now s) (now list))) from ⌝ }
+    requires { ⌜ Known (from .state) ⌝ }
     requires { ⌜ from .state .place + count ≤ mostPlaces ⌝ }
     ensures { λ r. ⌜ r ≡ goneOn document (readOf source) (heldIn source (now (s .entry)) (now (list .entry))) count from ⌝ }
 {

@@ -1,8 +1,6 @@
 // Answers, each on a line of its own: a refusal, what was written into a lent buffer, and a verdict.
 use super::bytes;
 use super::end_line;
-use super::front_bytes;
-use super::front_numbers;
 use super::lent::kept_bytes;
 use super::lent::kept_numbers;
 use super::number;
@@ -55,14 +53,14 @@ fn done(count: usize, places: usize) {
 pub fn done_numbers(count: usize, lent: &[u16]) {
     done(count, kept_numbers(lent));
     text(b":");
-    numbers(front_numbers(lent, count));
+    numbers(numbers::front(lent, count));
     end_line();
 }
 
 pub fn done_bytes(count: usize, lent: &[u8]) {
     done(count, kept_bytes(lent));
     text(b":");
-    bytes(front_bytes(lent, count));
+    bytes(bytes::front(lent, count));
     end_line();
 }
 
@@ -70,7 +68,7 @@ pub fn done_bytes(count: usize, lent: &[u8]) {
 pub fn done_text(count: usize, lent: &[u8]) {
     done(count, kept_bytes(lent));
     end_line();
-    text(front_bytes(lent, count));
+    text(bytes::front(lent, count));
 }
 
 fn place(x: usize) {

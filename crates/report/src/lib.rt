@@ -12,8 +12,6 @@ pub use answers::refused_numbers;
 pub use answers::verdict;
 pub use lent::marked_bytes;
 pub use lent::marked_numbers;
-ghost use mathlib.Core.Path.{_≡_};
-ghost use lib.ListN.{take};
 
 const OUT: i32 = 1;
 
@@ -54,7 +52,7 @@ pub fn end_line() {
 
 // A line that was read, cut where it is long.
 pub fn echo(words: &[u8]) {
-    text(front_bytes(words, 160));
+    text(bytes::front(words, 160));
     if 160 < words.len() {
         text(b" ..");
     }
@@ -70,24 +68,7 @@ pub fn line(x: usize, words: &[u8]) {
     end_line();
 }
 
-// The first `count` bytes or numbers, all if there are fewer.
-pub fn front_bytes<'a>(s: &'a [u8], count: usize) -> &'a [u8]
-    ensures { λ r. ⌜ now r ≡ take count (now (s .entry)) ⌝ }
-{
-    if count < s.len() { &s[..count] } else { s }
-}
-
-pub fn front_numbers<'a>(list: &'a [u16], count: usize) -> &'a [u16]
-    ensures { λ r. ⌜ now r ≡ take count (now (list .entry)) ⌝ }
-{
-    if count < list.len() {
-        &list[..count]
-    } else {
-        list
-    }
-}
-
-// The same of what is lent to be written.
+// The first `count` bytes or numbers of what is lent to be written, all if there are fewer.
 pub fn room_of_bytes<'a>(s: &'a mut [u8], count: usize) -> &'a mut [u8] {
     if count < s.len() { &mut s[..count] } else { s }
 }

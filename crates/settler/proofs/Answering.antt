@@ -9,7 +9,7 @@ use lib.ListN.{length, take, drop}
 use lib.Seq.{take-at, drop-append-seam}
 use Rattle.grid.proofs.Cases.{lt-or-le, never}
 use Rattle.reader.specs.declared.Reply.{Reply}
-use Rattle.reader.specs.Refusals.{noRoom}
+use Rattle.checks.specs.Refusals.{noRoom}
 use Rattle.reader.specs.Walk.{Numbers}
 use Rattle.reader.specs.Answer.{unpacked, settlementRead, settlementPacked, reply, kept}
 use Rattle.reader.proofs.Facts.{unpacked-shape, settlement-packed-read, reply-with-room, kept-with-room, reply-refused}

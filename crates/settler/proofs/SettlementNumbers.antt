@@ -10,7 +10,8 @@ use lib.ListN.{length, getD, take, List·getD-eq-default}
 use lib.Seq.{getD-take, length-take-le}
 use Rattle.grid.specs.Grid.{Grid}
 use Rattle.grid.proofs.Cases.{lt-or-le}
-use Rattle.grid.proofs.Places.{inside, prod-small}
+use Rattle.grid.proofs.Places.{inside}
+use Rattle.numbers.proofs.Products.{prod-small}
 use Rattle.market.specs.declared.Deal.{Deal}
 use Rattle.market.specs.declared.Deal.the-variants.{Tariff, Free}
 use Rattle.market.specs.Market.{Ticket, Sound}
@@ -18,7 +19,7 @@ use Rattle.market.specs.Tables.{settlementIn}
 use Rattle.market.specs.Same.{SameTicket, SameSettlement}
 use Rattle.market.proofs.Same.{sound-same}
 use Rattle.market.proofs.Gains.{nothing-blocks-iff}
-use Rattle.reader.specs.Groups.{pack}
+use Rattle.groups.specs.Groups.{pack}
 use Rattle.reader.proofs.SettlementLaws.{SettlementShape}
 use Rattle.reader.proofs.Facts.{pair-below, settlement-accepted, settlement-bytes}
 use Rattle.tables.specs.View.{growersOf, pilotsOf, pairPlace, ticketOf, settlementOf}

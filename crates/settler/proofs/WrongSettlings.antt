@@ -9,8 +9,8 @@ use Rattle.grid.specs.First.{first}
 use Rattle.grid.specs.Sum.{sum}
 use Rattle.grid.proofs.Cases.{never}
 use Rattle.reader.specs.declared.Reply.{Reply}
-use Rattle.reader.specs.Refusals.{noRoom}
-use Rattle.reader.specs.Groups.{readFrom}
+use Rattle.checks.specs.Refusals.{noRoom}
+use Rattle.groups.specs.Groups.{readFrom}
 use Rattle.reader.specs.Walk.{walk, form, Numbers}
 use Rattle.reader.specs.Answer.{unpacked}
 use Rattle.market.specs.declared.Deal.the-variants.{Tariff, Free}

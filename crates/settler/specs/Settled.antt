@@ -6,7 +6,7 @@ use mathlib.Core.Path.{_≡_}
 use mathlib.Core.List.{List}
 use lib.ListN.{length, take, drop}
 use Rattle.reader.specs.declared.Reply.{Reply}
-use Rattle.reader.specs.Refusals.{noRoom}
+use Rattle.checks.specs.Refusals.{noRoom}
 use Rattle.reader.specs.Walk.{Outcome, Refusal, Numbers}
 use Rattle.reader.specs.Values.{Refuses, Counts}
 use Rattle.reader.specs.Answer.{unpacked, settlementRead}

@@ -54,14 +54,14 @@ fn settle_numbers(ticket: &[u16], settlement: &mut [u8]) -> Reply
 {
     let growers = tables::growers(ticket);
     let pilots = tables::pilots(ticket);
-    let pairs = grid::pairs(growers, pilots);
+    let pairs = numbers::pairs(growers, pilots);
     if settlement.len() < 3 + 4 * pairs {
         return Reply::Refused { why: NO_ROOM };
     }
-    let mut list = tables::settlement_list();
+    let mut list = numbers::settlement_list();
     list_sound(ticket, &mut list);
     reader::write_settlement(
-        grid::front(&list, 3 + 3 * pairs),
+        numbers::front(&list, 3 + 3 * pairs),
         growers,
         pilots,
         settlement,
@@ -72,10 +72,10 @@ fn settle_numbers(ticket: &[u16], settlement: &mut [u8]) -> Reply
 pub fn settle(ticket: &[u8], settlement: &mut [u8]) -> Reply
     ensures { λ r. ⌜ Settled (now (ticket .entry)) (now (settlement .entry)) (now (settlement .exit)) r ⌝ }
 {
-    let mut numbers = tables::ticket_list();
+    let mut numbers = numbers::ticket_list();
     let reply = reader::unpack(ticket, &mut numbers);
     match reply {
         Reply::Refused { why } => Reply::Refused { why },
-        Reply::Done { count } => settle_numbers(grid::front(&numbers, count), settlement),
+        Reply::Done { count } => settle_numbers(numbers::front(&numbers, count), settlement),
     }
 }

@@ -3,7 +3,6 @@ use super::tally::OTHER;
 use super::tally::OURS;
 use super::tally::WRONG;
 use plain::count;
-use report::front_bytes;
 
 // Both are 0 past their end.
 fn same(settlement: &[u8; 15], ours: &[u8; 19]) -> bool {
@@ -18,7 +17,7 @@ fn same(settlement: &[u8; 15], ours: &[u8; 19]) -> bool {
 fn judged(ticket: &[u8], settlement: &[u8; 15], ours: &[u8; 19]) -> usize {
     if plain::is_sound(
         ticket,
-        front_bytes(settlement, plain::settlement_length(ticket)),
+        bytes::front(settlement, plain::settlement_length(ticket)),
     ) {
         if same(settlement, ours) { OURS } else { OTHER }
     } else {

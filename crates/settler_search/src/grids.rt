@@ -7,10 +7,9 @@ use plain::Most;
 use plain::count;
 use plain::first_ticket;
 use plain::no_counts;
-use report::front_bytes;
 
 fn of_ticket(file: &[u8; 27], with_every: bool, tally: &mut [usize; 12]) {
-    let ticket = front_bytes(file, plain::ticket_length(file));
+    let ticket = bytes::front(file, plain::ticket_length(file));
     let mut lent = settled::no_bytes();
     count(&mut *tally, settled::of_ticket(ticket, &mut lent));
     if with_every {

@@ -5,7 +5,6 @@ use super::tally::REFUSED;
 use super::tally::SOUND;
 use super::tally::UNSOUND;
 use reader::Reply;
-use report::front_bytes;
 use verdicts::Verdict;
 
 // Room for 3 + 4nm bytes with two growers and two pilots.
@@ -38,6 +37,6 @@ fn judged(ticket: &[u8], settlement: &[u8]) -> usize {
 pub(crate) fn of_ticket(ticket: &[u8], lent: &mut [u8; 19]) -> usize {
     match settler::settle(ticket, &mut *lent) {
         Reply::Refused { why } => REFUSED,
-        Reply::Done { count } => judged(ticket, front_bytes(lent, count)),
+        Reply::Done { count } => judged(ticket, bytes::front(lent, count)),
     }
 }

@@ -5,8 +5,9 @@ use mathlib.Core.List.{[], _∷_}
 use Rattle.grid.specs.First.{first}
 use Rattle.grid.specs.Sum.{sum}
 use Rattle.verdicts.specs.Tests.{cheapestOf}
-use Rattle.sheets.specs.Decimal.{decimal}
-use Rattle.sheets.specs.Sheet.{pairLines, sheetText, refusedText}
+use Rattle.bytes.specs.Decimal.{decimal}
+use Rattle.sheets.specs.Sheet.{pairLines, sheetText}
+use Rattle.bytes.specs.Lines.{refusedText}
 
 pub sheet-of-a : sheetText (1 ∷ 1 ∷ 1 ∷ 3 ∷ 2 ∷ 1 ∷ 4 ∷ 3 ∷ 0 ∷ 0 ∷ []) (2 ∷ 1 ∷ 1 ∷ 1 ∷ 0 ∷ 0 ∷ [])
     ≡ 83 ∷ 72 ∷ 69 ∷ 69 ∷ 84 ∷ 32 ∷ 49 ∷ 32 ∷ 49 ∷ 10 ∷ 48 ∷ 32 ∷ 48 ∷ 32 ∷ 49 ∷ 32 ∷ 52 ∷ 32 ∷ 51 ∷ 32 ∷ 48 ∷ 32 ∷ 48 ∷ 32 ∷ 48 ∷ 10 ∷ 83 ∷ 79 ∷ 85 ∷ 78 ∷ 68 ∷ 32 ∷ 50 ∷ 10 ∷ []

@@ -1,6 +1,4 @@
-pub mod PageWriting
-pub mod Spelling
-pub mod LineLaws
+pub mod PackedDigits
 pub mod PairLaws
 pub mod SheetLaws
 pub mod PrintLaws

@@ -11,12 +11,12 @@ use lib.Dec.{eqb}
 use lib.ListN.{length, getD, length-append}
 use Rattle.grid.specs.Grid.{Grid, at}
 use Rattle.grid.proofs.Places.{Inside, inside}
-use Rattle.sheets.specs.Writing.{Wrote}
-use Rattle.sheets.specs.Lines.{line}
+use Rattle.bytes.specs.Writing.{Wrote}
+use Rattle.bytes.specs.Lines.{line}
 use Rattle.sheets.specs.Sheet.{growerShare, lineIfHours, pairLines}
 use Rattle.sheets.specs.Squares.{numbersIn, lineIn, Printable}
-use Rattle.sheets.proofs.PageWriting.{wrote-nothing, wrote-then, wrote-same}
-use Rattle.sheets.proofs.LineLaws.{line-short}
+use Rattle.bytes.proofs.PageWriting.{wrote-nothing, wrote-then, wrote-same}
+use Rattle.bytes.proofs.LineLaws.{line-short}
 
 module _ (hours gain pay : ℕ) where
   pub share-without-hours : hours ≡ 0 → 0 ≡ growerShare hours gain pay
@@ -24,9 +24,6 @@ module _ (hours gain pay : ℕ) where
 
   pub share-some : (hours ≡ 0 → ⊥) → gain - pay ≡ growerShare hours gain pay
   share-some n = rw (ne-eqb hours 0 n)
-
-  pub share-nothing : (hours ≡ 0 → ⊥) → gain ≤ pay → 0 ≡ growerShare hours gain pay
-  share-nothing n h = rw (ne-eqb hours 0 n) (omega arith)
 
 pub neither : (t f : ℕ) → t ≡ 0 → eqb f 0 ≡ (eqb t 0 && eqb f 0)
 neither t f e = rw (eq-eqb t 0 e)

@@ -8,9 +8,9 @@ use lib.ListN.{length, take, drop, length-append}
 use lib.Seq.{length-sets, take-at}
 use Rattle.grid.specs.Front.{front}
 use Rattle.grid.proofs.Cases.{never}
-use Rattle.grid.proofs.Places.{prod-small}
+use Rattle.numbers.proofs.Products.{prod-small}
 use Rattle.reader.specs.declared.Reply.{Reply}
-use Rattle.reader.specs.Refusals.{noRoom}
+use Rattle.checks.specs.Refusals.{noRoom}
 use Rattle.reader.specs.Walk.{Outcome, Refusal, Numbers}
 use Rattle.reader.specs.Answer.{unpacked, settlementRead, reply}
 use Rattle.reader.proofs.Telling.{refuses, counts}
@@ -22,11 +22,13 @@ use Rattle.verdicts.specs.Values.{verdictCount}
 use Rattle.marker.specs.Marked.{marked}
 use Rattle.settler.specs.Settled.{SettledIn, Settled}
 use Rattle.settler.proofs.Answering.{not-refused, done-settled}
-use Rattle.sheets.specs.Writing.{pageBytes, Wrote}
-use Rattle.sheets.specs.Sheet.{headOf, linesOf, lastOf, sheetText, refusedText}
+use Rattle.sheets.specs.Page.{pageBytes}
+use Rattle.bytes.specs.Writing.{Wrote}
+use Rattle.sheets.specs.Sheet.{headOf, linesOf, lastOf, sheetText}
+use Rattle.bytes.specs.Lines.{refusedText}
 use Rattle.sheets.specs.Sheeted.{IsSheet, roomForSheet, SheetIn, Sheeted}
 use Rattle.sheets.specs.Printing.{Settles, Together, SoundFile, Printed}
-use Rattle.sheets.proofs.LineLaws.{line-short}
+use Rattle.bytes.proofs.LineLaws.{line-short}
 use Rattle.sheets.proofs.SheetLaws.{lines-short, few-growers, few-pilots, all-deals-marked, all-deals-judged}
 
 -- No sheet is longer than the room that is asked for it.

@@ -8,7 +8,7 @@ use native.Mathlib.Omega.{arith}
 use lib.Dec.{eqb}
 use lib.ListN.{length, getD}
 use Rattle.grid.specs.Grid.{Grid, at}
-use Rattle.grid.proofs.Places.{prod-small}
+use Rattle.numbers.proofs.Products.{prod-small}
 use Rattle.market.specs.declared.Deal.the-variants.{Tariff, Free}
 use Rattle.market.specs.Market.{Ticket, Settlement}
 use Rattle.reader.proofs.Facts.{unpacked-shape, unpacked-deal, settlement-shape}
@@ -22,13 +22,14 @@ use Rattle.marker.specs.Verdict.{judged}
 use Rattle.verdicts.specs.Values.{verdictCount}
 use Rattle.marker.specs.Marked.{marked}
 use Rattle.marker.proofs.Marking.{sound-files-marked}
-use Rattle.sheets.specs.Writing.{pageBytes, Wrote}
-use Rattle.sheets.specs.Lines.{line}
+use Rattle.sheets.specs.Page.{pageBytes}
+use Rattle.bytes.specs.Writing.{Wrote}
+use Rattle.bytes.specs.Lines.{line}
 use Rattle.sheets.specs.Sheet.{soundWord, growerShare, pairNumbers, pairLine, pairLines, headOf, linesOf, sheetText}
 use Rattle.sheets.specs.Squares.{numbersIn, lineIn, Printable}
 use Rattle.sheets.specs.Printing.{Settles, Together}
-use Rattle.sheets.proofs.PageWriting.{wrote-then}
-use Rattle.sheets.proofs.LineLaws.{line-short}
+use Rattle.bytes.proofs.PageWriting.{wrote-then}
+use Rattle.bytes.proofs.LineLaws.{line-short}
 use Rattle.sheets.proofs.PairLaws.{same-lines, pairs-short, if-hours-short}
 
 -- a share is at most the joint gain

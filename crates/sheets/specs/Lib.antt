@@ -1,7 +1,5 @@
 -- The definitions that the contracts of `sheets` cite, each file over those above it.
-pub mod Decimal
-pub mod Writing
-pub mod Lines
+pub mod Page
 pub mod Sheet
 pub mod Squares
 pub mod Sheeted

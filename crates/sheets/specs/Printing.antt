@@ -9,7 +9,7 @@ use Rattle.tables.specs.View.{growersOf, pilotsOf, ticketOf, settlementOf}
 use Rattle.marker.specs.Verdict.{judged}
 use Rattle.verdicts.specs.Values.{verdictCount}
 use Rattle.settler.specs.Settled.{SoundNumbers}
-use Rattle.sheets.specs.Writing.{Wrote}
+use Rattle.bytes.specs.Writing.{Wrote}
 use Rattle.sheets.specs.Sheeted.{IsSheet}
 
 -- the numbers xs of a ticket's bytes, and the numbers ys of the file of a sound settlement of it

@@ -1,4 +1,4 @@
--- The sheet of a settled ticket, and of a refused one, as bytes.
+-- The sheet of a settled ticket as bytes. That of a refused one is `refusedText` (`bytes`).
 -- Assumes nothing.
 use Prim.Native.Nat.{ℕ, zero, suc, _-_, _*_, _/_, _%_}
 use mathlib.Core.List.{List, [], _∷_, _++_}
@@ -9,17 +9,14 @@ use Rattle.market.specs.Market.{Ticket, Settlement}
 use Rattle.tables.specs.View.{growersOf, pilotsOf, ticketOf, settlementOf}
 use Rattle.marker.specs.Verdict.{judged}
 use Rattle.verdicts.specs.Values.{verdictCount}
-use Rattle.sheets.specs.Lines.{line}
+use Rattle.bytes.specs.Lines.{line}
 
--- `SHEET `, `SOUND ` and `REFUSED `
+-- `SHEET ` and `SOUND `
 abbrev pub sheetWord : List ℕ
 sheetWord = 83 ∷ 72 ∷ 69 ∷ 69 ∷ 84 ∷ 32 ∷ []
 
 abbrev pub soundWord : List ℕ
 soundWord = 83 ∷ 79 ∷ 85 ∷ 78 ∷ 68 ∷ 32 ∷ []
-
-abbrev pub refusedWord : List ℕ
-refusedWord = 82 ∷ 69 ∷ 70 ∷ 85 ∷ 83 ∷ 69 ∷ 68 ∷ 32 ∷ []
 
 -- what the grower has of a free hour: the joint gain without the pilot's pay, 0 without free hours
 abbrev pub growerShare : ℕ → ℕ → ℕ → ℕ
@@ -61,7 +58,3 @@ lastOf ticket settlement = soundWord ++ line (verdictCount (judged (ticketOf tic
 
 abbrev pub sheetText : List ℕ → List ℕ → List ℕ
 sheetText ticket settlement = headOf ticket ++ linesOf ticket settlement ++ lastOf ticket settlement
-
--- a refusal, alone
-abbrev pub refusedText : ℕ → List ℕ
-refusedText why = refusedWord ++ line (why ∷ [])

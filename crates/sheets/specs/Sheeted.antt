@@ -5,13 +5,14 @@ use mathlib.Core.Path.{_≡_}
 use mathlib.Core.List.{List, _++_}
 use lib.ListN.{length, drop}
 use Rattle.reader.specs.declared.Reply.{Reply}
-use Rattle.reader.specs.Refusals.{noRoom}
+use Rattle.checks.specs.Refusals.{noRoom}
 use Rattle.reader.specs.Walk.{Outcome, Refusal, Numbers}
 use Rattle.reader.specs.Values.{Refuses, Counts}
 use Rattle.reader.specs.Answer.{settlementRead}
 use Rattle.tables.specs.View.{growersOf, pilotsOf}
 use Rattle.settler.specs.Settled.{SoundNumbers}
-use Rattle.sheets.specs.Sheet.{sheetText, refusedText}
+use Rattle.sheets.specs.Sheet.{sheetText}
+use Rattle.bytes.specs.Lines.{refusedText}
 
 -- The sheet of the ticket xs: that of a sound settlement of it. Which one is free.
 pub record SettledSheet (xs text : List ℕ) : Type 0 where

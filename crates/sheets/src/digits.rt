@@ -1,8 +1,9 @@
 // Numbers in decimal digits, without leading zeros.
 ghost use mathlib.Core.Path.{_≡_};
 ghost use Prim.Native.Nat.{_+_, _<_, _≤_};
-ghost use Rattle.sheets.specs.Decimal.{digit, spelled, decimal};
-ghost use Rattle.sheets.specs.Writing.{pageBytes, Wrote};
+ghost use Rattle.bytes.specs.Decimal.{digit, spelled, decimal};
+ghost use Rattle.sheets.specs.Page.{pageBytes};
+ghost use Rattle.bytes.specs.Writing.{Wrote};
 use crate::lines::put;
 
 // Digits follow one another from the byte of 0 on, which is 48.
@@ -35,7 +36,7 @@ pub(crate) fn amount(page: &mut [u8; 8216], at: usize, n: u16) -> usize
     requires { ⌜ (n ≤ 500) × (at + 3 ≤ pageBytes) ⌝ }
     ensures { λ r. ⌜ Wrote (now (page .entry)) (now (page .exit)) at r (decimal n) ⌝ }
 {
-    let digits = grid::index(amounts::packed_digits(grid::index(n)));
+    let digits = numbers::index(amounts::packed_digits(numbers::index(n)));
     spell(page, at, digits / 256, digits / 16 % 16, digits % 16)
 }
 

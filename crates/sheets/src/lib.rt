@@ -11,7 +11,7 @@ ghost use lib.ListN.{length, take};
 ghost use Rattle.grid.specs.Front.{front};
 ghost use Rattle.reader.specs.Walk.{Refusal, Numbers};
 ghost use Rattle.reader.specs.Answer.{unpacked};
-ghost use Rattle.sheets.specs.Writing.{pageBytes};
+ghost use Rattle.sheets.specs.Page.{pageBytes};
 ghost use Rattle.sheets.specs.Sheeted.{Sheeted};
 ghost use Rattle.sheets.specs.Printing.{SoundFile, Printed};
 use lines::counted;
@@ -36,17 +36,6 @@ fn no_bytes() -> [u8; 1027]
     [0; 1027]
 }
 
-// The first `count` bytes, all if there are fewer.
-fn front_bytes<'a>(bytes: &'a [u8], count: usize) -> &'a [u8]
-    ensures { λ r. ⌜ now r ≡ take count (now (bytes .entry)) ⌝ }
-{
-    if count < bytes.len() {
-        &bytes[..count]
-    } else {
-        bytes
-    }
-}
-
 // The sheet of a ticket and of the file of a sound settlement of it. The file is always read.
 fn print_file(page: &mut [u8; 8216], ticket: &[u8], numbers: &[u16], file: &[u8]) -> usize
     requires { ⌜ SoundFile (now ticket) (now numbers) (now file) ⌝ }
@@ -54,14 +43,14 @@ fn print_file(page: &mut [u8; 8216], ticket: &[u8], numbers: &[u16], file: &[u8]
 {
     let growers = tables::growers(numbers);
     let pilots = tables::pilots(numbers);
-    let mut list = tables::settlement_list();
+    let mut list = numbers::settlement_list();
     let reply = reader::read_settlement(file, growers, pilots, &mut list);
     match reply {
         Reply::Refused { why: _ } => 0,
         Reply::Done { count } => settled_text(
             page,
             numbers,
-            grid::front(&list, count),
+            numbers::front(&list, count),
             marked_deals(ticket, file),
         ),
     }
@@ -76,7 +65,12 @@ fn print_settled(page: &mut [u8; 8216], ticket: &[u8], numbers: &[u16]) -> usize
     let reply = settler::settle(ticket, &mut settlement);
     match reply {
         Reply::Refused { why: _ } => 0,
-        Reply::Done { count } => print_file(page, ticket, numbers, front_bytes(&settlement, count)),
+        Reply::Done { count } => print_file(
+            page,
+            ticket,
+            numbers,
+            bytes::front(&settlement, count),
+        ),
     }
 }
 
@@ -110,7 +104,7 @@ fn sheet_settled(ticket: &[u8], numbers: &[u16], text: &mut [u8]) -> Reply
 {
     let growers = tables::growers(numbers);
     let pilots = tables::pilots(numbers);
-    let pairs = grid::pairs(growers, pilots);
+    let pairs = numbers::pairs(growers, pilots);
     if text.len() < 24 + 32 * pairs {
         return Reply::Refused { why: NO_ROOM };
     }
@@ -124,10 +118,10 @@ fn sheet_settled(ticket: &[u8], numbers: &[u16], text: &mut [u8]) -> Reply
 pub fn sheet(ticket: &[u8], text: &mut [u8]) -> Reply
     ensures { λ r. ⌜ Sheeted (unpacked (now (ticket .entry))) (now (text .entry)) (now (text .exit)) r ⌝ }
 {
-    let mut numbers = tables::ticket_list();
+    let mut numbers = numbers::ticket_list();
     let reply = reader::unpack(ticket, &mut numbers);
     match reply {
         Reply::Refused { why } => sheet_refused(why, text),
-        Reply::Done { count } => sheet_settled(ticket, grid::front(&numbers, count), text),
+        Reply::Done { count } => sheet_settled(ticket, numbers::front(&numbers, count), text),
     }
 }

@@ -3,9 +3,10 @@ ghost use mathlib.Core.Path.{_≡_};
 ghost use mathlib.Core.List.{_∷_, [], _++_};
 ghost use Prim.Native.Nat.{ℕ, _+_, _*_, _<_, _≤_};
 ghost use lib.ListN.{length, getD, drop};
-ghost use Rattle.sheets.specs.Decimal.{decimal};
-ghost use Rattle.sheets.specs.Writing.{pageBytes, Wrote};
-ghost use Rattle.sheets.specs.Lines.{separator, line};
+ghost use Rattle.bytes.specs.Decimal.{decimal};
+ghost use Rattle.sheets.specs.Page.{pageBytes};
+ghost use Rattle.bytes.specs.Writing.{Wrote};
+ghost use Rattle.bytes.specs.Lines.{separator, line};
 use crate::digits::amount;
 use crate::digits::count;
 

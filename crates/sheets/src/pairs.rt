@@ -5,10 +5,12 @@ ghost use Prim.Native.Nat.{ℕ, _+_, _*_, _<_, _≤_};
 ghost use lib.Dec.{eqb};
 ghost use lib.ListN.{length, getD};
 ghost use Rattle.grid.specs.Grid.{at};
-ghost use Rattle.sheets.specs.Writing.{pageBytes, Wrote};
+ghost use Rattle.sheets.specs.Page.{pageBytes};
+ghost use Rattle.bytes.specs.Writing.{Wrote};
 ghost use Rattle.sheets.specs.Sheet.{growerShare, lineIfHours, pairLines};
 ghost use Rattle.sheets.specs.Squares.{numbersIn, lineIn, Printable};
 use crate::lines::amounts;
+use grid::cell;
 
 // A grower or a pilot, as a number of the line.
 fn party(x: usize) -> u16
@@ -18,13 +20,6 @@ fn party(x: usize) -> u16
     x as u16
 }
 
-fn cell(square: [[u16; 16]; 16], i: usize, j: usize) -> u16
-    requires { ⌜ (i < 16) × (j < 16) ⌝ }
-    ensures { λ r. ⌜ r ≡ at square i j ⌝ }
-{
-    square[i][j]
-}
-
 // What the grower has of a free hour; 0 without free hours.
 fn grower_share(hours: u16, gain: u16, pay: u16) -> u16
     ensures { λ r. ⌜ r ≡ growerShare hours gain pay ⌝ }
@@ -32,7 +27,7 @@ fn grower_share(hours: u16, gain: u16, pay: u16) -> u16
     if hours == 0 {
         return 0;
     }
-    if pay < gain { gain - pay } else { 0 }
+    numbers::less(gain, pay)
 }
 
 fn pair_numbers(
@@ -98,7 +93,7 @@ pub(crate) fn pair_lines(
     ensures { λ r. ⌜ Wrote (now (page .entry)) (now (page .exit)) at r
         (pairLines (lineIn «tariff_hours» «tariff_gain» «tariff_pay» «free_hours» «joint_gain» pay) pilots (growers * pilots)) ⌝ }
 {
-    let end = grid::pairs(growers, pilots);
+    let end = numbers::pairs(growers, pilots);
     let mut here = at;
     for p in 0..end {
         let numbers = pair_numbers(

@@ -4,8 +4,8 @@ ghost use mathlib.Core.List.{_∷_, [], _++_};
 ghost use Prim.Native.Nat.{ℕ, _≤_};
 ghost use Rattle.verdicts.specs.declared.Verdict.{Verdict};
 ghost use Rattle.marker.specs.Marked.{marked};
-ghost use Rattle.sheets.specs.Writing.{Wrote};
-ghost use Rattle.sheets.specs.Lines.{line};
+ghost use Rattle.bytes.specs.Writing.{Wrote};
+ghost use Rattle.bytes.specs.Lines.{line};
 ghost use Rattle.sheets.specs.Sheet.{sheetWord, linesOf, sheetText};
 ghost use Rattle.sheets.specs.Printing.{Paired, Together};
 use crate::lines::amounts;
@@ -65,7 +65,7 @@ pub(crate) fn settled_text(
     requires { ⌜ Together (now ticket) (now settlement) count ⌝ }
     ensures { λ r. ⌜ Wrote (now (page .entry)) (now (page .exit)) 0 r (sheetText (now (ticket .entry)) (now (settlement .entry))) ⌝ }
 {
-    let next = header(page, grid::entry(ticket, 1), grid::entry(ticket, 2));
+    let next = header(page, numbers::entry(ticket, 1), numbers::entry(ticket, 2));
     let last = lines_between(page, next, ticket, settlement);
     counted(page, last, b"SOUND ", count)
 }

@@ -1,10 +1,7 @@
-// A ticket's numbers and a settlement's as rows and squares, one for each quantity; and room for them. Each function answers on every
-// input, as far as a square reaches.
-mod lists;
+// A ticket's numbers and a settlement's as rows and squares, one for each quantity. Each function answers on every input, as far as a
+// square reaches.
 mod quantities;
 
-pub use lists::settlement_list;
-pub use lists::ticket_list;
 pub use quantities::fill;
 pub use quantities::grower_hours;
 pub use quantities::growers;

@@ -35,13 +35,13 @@ fn place(quantity: Quantity, n: usize, m: usize, i: usize, j: usize) -> usize
 pub fn growers(list: &[u16]) -> usize
     ensures { λ r. ⌜ (r ≡ growersOf (now (list .entry))) × (r < 65536) ⌝ }
 {
-    grid::index(grid::entry(list, 1))
+    numbers::index(numbers::entry(list, 1))
 }
 
 pub fn pilots(list: &[u16]) -> usize
     ensures { λ r. ⌜ (r ≡ pilotsOf (now (list .entry))) × (r < 65536) ⌝ }
 {
-    grid::index(grid::entry(list, 2))
+    numbers::index(numbers::entry(list, 2))
 }
 
 // A quantity of the pair of grower i and pilot j.
@@ -51,7 +51,7 @@ fn quantity_at(list: &[u16], quantity: Quantity, i: usize, j: usize) -> u16
 {
     let n = growers(list);
     let m = pilots(list);
-    grid::entry(list, place(quantity, n, m, i, j))
+    numbers::entry(list, place(quantity, n, m, i, j))
 }
 
 // Writes a quantity of every pair into a lent square, growers by pilots, as far as the square reaches. Its other cells stay as they are.
@@ -60,8 +60,8 @@ pub fn fill(list: &[u16], quantity: Quantity, into: &mut [[u16; 16]; 16])
     ensures { λ _. ⌜ HoldsOver (now (into .entry)) quantity (now (list .entry)) (now (into .exit)) ⌝ }
 {
     let _before = grid::copied(&*into);
-    let rows = grid::within(growers(list));
-    let columns = grid::within(pilots(list));
+    let rows = numbers::within(growers(list));
+    let columns = numbers::within(pilots(list));
     for i in 0..rows {
         for j in 0..columns {
             into[i][j] = quantity_at(list, quantity, i, j);
@@ -83,10 +83,10 @@ fn row(list: &[u16], from: usize, count: usize) -> [u16; 16]
     requires { ⌜ from < 200000 ⌝ }
     ensures { λ r. ⌜ FilledRow (λ i. getD (now (list .entry)) (from + i) 0) (min 16 count) r ⌝ }
 {
-    let end = grid::within(count);
+    let end = numbers::within(count);
     let mut r = grid::zero_row();
     for i in 0..end {
-        r[i] = grid::entry(list, from + i);
+        r[i] = numbers::entry(list, from + i);
     }
     r
 }

@@ -5,7 +5,7 @@ use mathlib.Core.List.{[], _∷_}
 use Rattle.market.specs.declared.Deal.the-variants.{Free}
 use Rattle.verdicts.specs.declared.Verdict.the-variants.{Refused, Blocks}
 use Rattle.verdicts.specs.Values.{valuesOf}
-use Rattle.sheets.specs.Decimal.{decimal}
+use Rattle.bytes.specs.Decimal.{decimal}
 use Rattle.texts.specs.MarkLine.{markLine}
 
 -- `MARK 8 0 1 free 4`

@@ -10,9 +10,9 @@ use lib.ListN.{length, set, length-append}
 use lib.Seq.{length-sets}
 use Rattle.io.specs.Digits.{glyph, digits, Fewest}
 use Rattle.verdicts.specs.declared.Values.{Values}
-use Rattle.sheets.specs.Decimal.{digit, decimal}
-use Rattle.sheets.specs.Writing.{Wrote}
-use Rattle.sheets.proofs.Spelling.{units-alone, tens-first, hundreds-first, decimal-is, decimal-short}
+use Rattle.bytes.specs.Decimal.{digit, decimal}
+use Rattle.bytes.specs.Writing.{Wrote}
+use Rattle.bytes.proofs.Spelling.{units-alone, tens-first, hundreds-first, decimal-is, decimal-short}
 use Rattle.market.specs.declared.Deal.{Deal}
 use Rattle.market.specs.declared.Deal.the-variants.{Tariff, Free}
 use Rattle.texts.specs.MarkLine.{field, dealWord, headOf}

@@ -10,17 +10,16 @@ use lib.Dec.{eqb}
 use lib.ListN.{length, take, length-append}
 use lib.Seq.{sets, take-at}
 use Rattle.reader.specs.declared.Reply.{Reply}
-use Rattle.reader.specs.Refusals.{noRoom}
+use Rattle.checks.specs.Refusals.{noRoom}
 use Rattle.reader.specs.Walk.{Numbers}
 use Rattle.reader.specs.Answer.{Tells, kept}
 use Rattle.reader.proofs.Facts.{reply-with-room, reply-without-room, kept-without-room, written-front}
 use Rattle.reader.proofs.Telling.{tells}
 use Rattle.verdicts.specs.declared.Values.{Values}
 use Rattle.marker.specs.Marked.{markedValues}
-use Rattle.sheets.specs.Lines.{line}
-use Rattle.sheets.specs.Sheet.{refusedText}
-use Rattle.sheets.specs.Writing.{Wrote}
-use Rattle.sheets.proofs.LineLaws.{line-short}
+use Rattle.bytes.specs.Lines.{line, refusedText}
+use Rattle.bytes.specs.Writing.{Wrote}
+use Rattle.bytes.proofs.LineLaws.{line-short}
 use Rattle.texts.specs.MarkLine.{lineBytes, dealWord, headOf, verdictLine, markLine}
 use Rattle.texts.proofs.LineWriting.{head-short, deal-short}
 

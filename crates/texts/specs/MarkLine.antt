@@ -8,9 +8,8 @@ use lib.Dec.{eqb}
 use Rattle.market.specs.declared.Deal.{Deal}
 use Rattle.market.specs.declared.Deal.the-variants.{Tariff, Free}
 use Rattle.verdicts.specs.declared.Values.{Values}
-use Rattle.sheets.specs.Decimal.{decimal}
-use Rattle.sheets.specs.Lines.{line}
-use Rattle.sheets.specs.Sheet.{refusedText}
+use Rattle.bytes.specs.Decimal.{decimal}
+use Rattle.bytes.specs.Lines.{line, refusedText}
 
 -- `MARK `
 abbrev pub markWord : List ℕ

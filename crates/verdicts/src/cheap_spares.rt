@@ -34,7 +34,7 @@ fn cheapest(
 ) -> Spare
     ensures { λ r. ⌜ r ≡ cheapestOf spare (lines tariff free) (lines earned share) (min 16 partners) ⌝ }
 {
-    let count = grid::within(partners);
+    let count = numbers::within(partners);
     let mut best = spare;
     for l in 0..count {
         let by_tariff = count_in(best, tariff[l], earned[l]);

@@ -32,7 +32,7 @@ fn both_below(of_grower: Spare, of_pilot: Spare, amount: u16) -> bool
     let Spare::Worth { worth: v } = of_pilot else {
         return false;
     };
-    grid::wide(w) + grid::wide(v) < grid::wide(amount)
+    numbers::wide(w) + numbers::wide(v) < numbers::wide(amount)
 }
 
 // An hour more of a deal outweighs two spares.

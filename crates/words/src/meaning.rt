@@ -111,7 +111,7 @@ fn spare_of_pilot(j: usize, offer: Spare) {
 }
 
 fn earned(gain: [[u16; 16]; 16], i: usize, j: usize, words: &[u8]) {
-    counted(STDOUT_FILENO, words, grid::cell(gain, i, j));
+    counted(STDOUT_FILENO, words, grid::cell(gain, i, j) as u64);
 }
 
 // What an hour more of a deal earns the two, and the hours that they would give up for it.
@@ -134,14 +134,14 @@ fn gains(ticket: &[u16], settlement: &[u16], i: usize, j: usize, deal: Deal) {
 
 // The same of files, which have been read before.
 fn gains_of_files(ticket: &[u8], settlement: &[u8], i: usize, j: usize, deal: Deal) {
-    let mut terms = tables::ticket_list();
+    let mut terms = numbers::ticket_list();
     let Reply::Done { count } = reader::unpack(ticket, &mut terms) else {
         return;
     };
-    let numbers = grid::front(&terms, count);
+    let numbers = numbers::front(&terms, count);
     let growers = tables::growers(numbers);
     let pilots = tables::pilots(numbers);
-    let mut agreed = tables::settlement_list();
+    let mut agreed = numbers::settlement_list();
     let Reply::Done { count: agreements } = reader::read_settlement(
         settlement,
         growers,
@@ -150,7 +150,7 @@ fn gains_of_files(ticket: &[u8], settlement: &[u8], i: usize, j: usize, deal: De
     ) else {
         return;
     };
-    gains(numbers, grid::front(&agreed, agreements), i, j, deal);
+    gains(numbers, numbers::front(&agreed, agreements), i, j, deal);
 }
 
 // A deal over its cap, or with a wrong pay.

@@ -31,18 +31,21 @@ fn column(square: [[u16; 16]; 16], j: usize) -> [u16; 16] {
 }
 
 // What is left of each number.
-fn less(from: [u16; 16], what: [u16; 16]) -> [u16; 16] {
+fn all_less(from: [u16; 16], what: [u16; 16]) -> [u16; 16] {
     let mut rest = grid::zero_row();
     for k in 0..16usize {
-        if what[k] < from[k] {
-            rest[k] = from[k] - what[k];
-        }
+        rest[k] = numbers::less(from[k], what[k]);
     }
     rest
 }
 
-fn left(hours: u64, used: u64) -> u64 {
-    if used < hours { hours - used } else { 0 }
+// What is left of a party's hours without those that are flown in a row of deals.
+fn left(hours: u16, flown: [u16; 16]) -> u16 {
+    let mut rest = hours;
+    for k in 0..16usize {
+        rest = numbers::less(rest, flown[k]);
+    }
+    rest
 }
 
 // A row without the hours of the deal itself.
@@ -88,9 +91,9 @@ fn hour_worth(
     Spare::Nothing
 }
 
-// Which spare for a deal with a partner is the cheapest, of a party who has a free hour or has none.
+// Which spare for a deal with a partner is the cheapest, of a party with so many hours and with these deals.
 fn cheapest(
-    unused: bool,
+    hours: u16,
     tariff: [u16; 16],
     free: [u16; 16],
     earned: [u16; 16],
@@ -98,7 +101,7 @@ fn cheapest(
     deal: Deal,
     partner: usize,
 ) -> Spare {
-    if unused {
+    if 0 < left(left(hours, tariff), free) {
         return Spare::FreeHour;
     }
     let found = cheapest_spare(0, tariff, free, earned, share, 16, deal, partner);
@@ -122,17 +125,15 @@ pub(crate) fn of_grower(
     j: usize,
     deal: Deal,
 ) -> Spare {
-    let by_tariff = tables::square(settlement, Quantity::TariffHours);
-    let by_free = tables::square(settlement, Quantity::FreeHours);
-    let hours = grid::wide(at(tables::grower_hours(ticket), i));
-    let after_tariff = left(hours, grid::row_sum(by_tariff, i, 16));
+    let by_tariff = row(tables::square(settlement, Quantity::TariffHours), i);
+    let by_free = row(tables::square(settlement, Quantity::FreeHours), i);
     let pay = row(tables::square(settlement, Quantity::Pay), i);
     cheapest(
-        grid::row_sum(by_free, i, 16) < after_tariff,
-        row(by_tariff, i),
-        row(by_free, i),
+        at(tables::grower_hours(ticket), i),
+        by_tariff,
+        by_free,
         row(tables::square(ticket, Quantity::TariffGain), i),
-        less(row(tables::square(ticket, Quantity::JointGain), i), pay),
+        all_less(row(tables::square(ticket, Quantity::JointGain), i), pay),
         deal,
         j,
     )
@@ -146,14 +147,12 @@ pub(crate) fn of_pilot(
     j: usize,
     deal: Deal,
 ) -> Spare {
-    let by_tariff = tables::square(settlement, Quantity::TariffHours);
-    let by_free = tables::square(settlement, Quantity::FreeHours);
-    let hours = grid::wide(at(tables::pilot_hours(ticket), j));
-    let after_tariff = left(hours, grid::col_sum(by_tariff, j, 16));
+    let by_tariff = column(tables::square(settlement, Quantity::TariffHours), j);
+    let by_free = column(tables::square(settlement, Quantity::FreeHours), j);
     cheapest(
-        grid::col_sum(by_free, j, 16) < after_tariff,
-        column(by_tariff, j),
-        column(by_free, j),
+        at(tables::pilot_hours(ticket), j),
+        by_tariff,
+        by_free,
         column(tables::square(ticket, Quantity::TariffPay), j),
         column(tables::square(settlement, Quantity::Pay), j),
         deal,

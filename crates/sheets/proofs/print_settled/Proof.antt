@@ -8,7 +8,7 @@ use Rattle.sheets.proofs.print_settled.Tie as tie
 print-file-requires : tie.Need-print-file-requires
 print-file-requires c κs =
     let z = c .before .before .before .before .before .before .before .before .before .no-bytes in
-    rw (c .front-bytes .ensures)
+    rw (c .front .ensures)
     (settlement-sound _ _ (z .result) _ _ (c .before .before .before .before .before .before .before .before .before .before .before .before .pre) (z .ensures) (c .before .before .before .before .before .before .before .settle .ensures) _ (c .before .before .before .before .reply .given .1))
 
 returns : tie.Need-returns

@@ -1,7 +1,7 @@
 -- `marker::looked_at` meets its contract: the product is small.
 use Prim.Native.Nat.{_*_, _≤_}
 use native.Mathlib.Omega.{arith}
-use Rattle.grid.proofs.Places.{prod-small}
+use Rattle.numbers.proofs.Products.{prod-small}
 use borrow.Author.Needs.{needs}
 use Rattle.marker.proofs.deal_faults.looked_at.Statement.{statement}
 use Rattle.marker.proofs.deal_faults.looked_at.Tie as tie

@@ -3,21 +3,23 @@
 use Prim.Native.Nat.{_-_, _≤_}
 use mathlib.Core.Path.{refl}
 use native.Mathlib.Omega.{arith}
-use Rattle.method.specs.View.{line, alone, heldBy}
+use Rattle.method.specs.View.{line, termsIn, agreedIn, alone, heldBy}
 use Rattle.method.specs.Jumps.{among, WorthAtLeast, OffersAtMost, TariffsBear}
-use Rattle.method.proofs.JumpLaws.{worth-none, worth-more, worth-end, offers-none, offers-more, offers-end, grower-bears, tariffs-none, tariffs-more, tariffs-end, growers-still, growers-one}
+use Rattle.method.proofs.PairLimits.{lower-by}
+use Rattle.method.proofs.JumpLaws.{worth-none, worth-more, worth-end, offers-none, offers-more, offers-end, grower-bears}
+use Rattle.method.proofs.JumpLaws.{tariffs-none, tariffs-more, tariffs-end, growers-still, growers-one}
 use borrow.Author.Needs.{needs}
 use Rattle.method.proofs.grower_limits.row_slack.Statement.{statement}
 use Rattle.method.proofs.grower_limits.row_slack.Tie as tie
 
 abbrev Inv-loop : tie.InvT-loop
-Inv-loop price pilots bound terms agreed marks paid₀ low₀ top₀ j₀ paid low top j = (j ≤ pilots) × (paid ≤ bound) ×
-    TariffsBear (alone pilots 0 terms) (among marks) (line price) (heldBy agreed) 0 j paid ×
-    WorthAtLeast (alone pilots 0 terms) (among marks) (line price) (heldBy agreed) 0 j low ×
-    OffersAtMost (alone pilots 0 terms) (among marks) (line price) (heldBy agreed) 0 j top
+Inv-loop price pilots bound terms agreed marks slack₀ j₀ slack j = (j ≤ pilots) × (slack .paid ≤ bound) ×
+    TariffsBear (alone pilots 0 terms) (among marks) (line price) (heldBy agreed) 0 j (slack .paid) ×
+    WorthAtLeast (alone pilots 0 terms) (among marks) (line price) (heldBy agreed) 0 j (slack .low) ×
+    OffersAtMost (alone pilots 0 terms) (among marks) (line price) (heldBy agreed) 0 j (slack .top)
 
 abbrev μ-loop : tie.MeasureT-loop
-μ-loop price pilots bound terms agreed marks paid₀ low₀ top₀ j₀ paid low top j = pilots - j
+μ-loop price pilots bound terms agreed marks slack₀ j₀ slack j = pilots - j
 
 returns : tie.Need-returns Inv-loop μ-loop
 returns c = (omega arith, growers-still _ _ _ _ _)
@@ -26,26 +28,25 @@ loop-holds : tie.Need-loop-holds Inv-loop μ-loop
 loop-holds c = (search needs, search needs, tariffs-none _ _ _ _ _ _, worth-none _ _ _ _ _ _, offers-none _ _ _ _ _)
 
 loop-again : tie.Need-loop-again Inv-loop μ-loop
-loop-again c = let v = c .before .before .before .before .before .before .before .before .before .before .before .before .before .before .before .loop .inv in
-    let paid = c .before .before .before .before .before .before .before .before .before .before .tariff-slack .ensures in
-    let least = c .before .before .before .before .before .least .ensures in
-    let worth = c .before .before .before .before .before .before .worth-here .ensures in
-    let most = c .most .ensures in
-    let outside = c .before .outside .ensures in (
+loop-again c = let l = c .before .before .before .before .before .loop in
+    let v = l .inv in
+    let a = c .before .before .before .before .before .before .before .args in
+    let h = lower-by (l .slack) (c .grower-slack .result) (among (a .t5) (l .j)) (termsIn (a .t1) (l .j)) (agreedIn (a .t2) (l .j))
+    (line (a .price .now) (l .j)) (c .grower-slack .ensures) in (
       search needs,
-      omega (arith, paid .0, v .1),
-      tariffs-more _ _ _ _ _ _ _ _ (paid .0) (paid .1) (v .2),
-      worth-more _ _ _ _ _ _ _ _ _ (least .0) (least .1) (worth .0) (worth .1) (v .3),
-      offers-more _ _ _ _ _ _ _ _ _ (most .0) (most .1) (outside .0) (outside .1) (v .4),
+      omega (arith, h .paid, v .1),
+      tariffs-more _ _ _ _ _ _ _ _ (h .paid) (h .tariffs) (v .2),
+      worth-more _ _ _ _ _ _ _ _ (h .low) (h .old) (h .new) (v .3),
+      offers-more _ _ _ _ _ _ _ _ (h .top) (h .tariff) (h .free) (v .4),
     )
 
 returns-2 : tie.Need-returns-2 Inv-loop μ-loop
 returns-2 c = let v = c .before .before .before .loop .inv in
     let all = c .before .before .loop-test .left in
-    let least = c .least2 .ensures in (
+    let least = c .least .ensures in (
       omega (arith, least .0, v .1),
       growers-one _ _ _ _ _ _ _ (least .0) (least .1) (tariffs-end _ _ _ _ _ _ _ _ (omega (arith, all, v .0)) (v .2))
-          (rw (c .before .less .ensures) (grower-bears _ _ _ _ _ _ _ refl (worth-end _ _ _ _ _ _ _ _ (omega (arith, all, v .0)) (v .3))
+          (rw (c .before .less-wide .ensures) (grower-bears _ _ _ _ _ _ _ refl (worth-end _ _ _ _ _ _ _ _ (omega (arith, all, v .0)) (v .3))
           (offers-end _ _ _ _ _ _ _ _ (omega (arith, all, v .0)) (v .4)))),
     )
 
@@ -64,22 +65,6 @@ row-slack-spec =
     (λ c. search needs)
     (λ c. search needs)
     (λ c. search needs)
-    (λ c κs. search needs)
-    (λ c. search needs)
-    (λ c. search needs)
-    (λ c. search needs)
-    (λ c. search needs)
-    (λ c. search needs)
-    (λ c. search needs)
-    (λ c κs. search needs)
-    (λ c κs. search needs)
-    (λ c. search needs)
-    (λ c. search needs)
-    (λ c. search needs)
-    (λ c. search needs)
-    (λ c. search needs)
-    (λ c. search needs)
-    (λ c κs. search needs)
     (λ c κs. search needs)
     (λ c. search needs)
     (λ c. search needs)

@@ -1,12 +1,10 @@
 -- `method::pilot_limits::pilots_slack` meets its contract.
 -- Assumes nothing.
 use Prim.Native.Nat.{_-_, _≤_}
-use mathlib.Core.Logic.{⊎-elim}
-use native.Mathlib.Nat.{le-refl}
 use native.Mathlib.Omega.{arith}
 use Rattle.method.specs.View.{line}
 use Rattle.method.specs.Jumps.{among, PilotsBear}
-use Rattle.method.proofs.JumpLaws.{not-both, pilots-none, pilots-still, pilots-more, pilots-end}
+use Rattle.method.proofs.JumpLaws.{pilots-none, pilots-more, pilots-end}
 use borrow.Author.Needs.{needs}
 use Rattle.method.proofs.pilot_limits.pilots_slack.Statement.{statement}
 use Rattle.method.proofs.pilot_limits.pilots_slack.Tie as tie
@@ -20,23 +18,11 @@ abbrev μ-loop : tie.MeasureT-loop
 loop-holds : tie.Need-loop-holds Inv-loop μ-loop
 loop-holds c = (search needs, pilots-none _ _ _ _)
 
-returns : tie.Need-returns Inv-loop μ-loop
-returns c = pilots-still _ _ _ _
-
 loop-again : tie.Need-loop-again Inv-loop μ-loop
-loop-again c = let all = c .before .before .loop .inv .1 in (
-  search needs,
-  ⊎-elim
-      (λ w.
-      let e = w .4 .ensures in
-      rw (w .5) (pilots-more _ _ _ _ _ _ (e .0) (λ _. omega (arith, w .1 .left)) (λ _. omega (arith, w .3 .ensures, e)) all))
-      (λ w.
-      rw (w .1) (pilots-more _ _ _ _ _ _ (le-refl _) (λ m. not-both _ m (w .0 .left)) (λ m. not-both _ m (w .0 .left)) all))
-      (c .if1 .came),
-)
+loop-again c = (search needs, pilots-more _ _ _ _ _ _ (c .pilot-slack .ensures) (c .before .before .before .loop .inv .1))
 
-returns-2 : tie.Need-returns-2 Inv-loop μ-loop
-returns-2 c = pilots-end _ _ _ _ _ _ (omega arith) (c .before .loop .inv .1)
+returns : tie.Need-returns Inv-loop μ-loop
+returns c = pilots-end _ _ _ _ _ _ (omega arith) (c .before .loop .inv .1)
 
 pub pilots-slack-spec : {M : Type 1} → statement M
 pilots-slack-spec =
@@ -48,12 +34,10 @@ pilots-slack-spec =
     (λ c. search needs)
     (λ c. search needs)
     (λ c. search needs)
-    returns
     (λ c. search needs)
     (λ c. search needs)
-    (λ c κs. search needs)
     (λ c κs. search needs)
     (λ c. search needs)
     (λ c. search needs)
     loop-again
-    returns-2)
+    returns)

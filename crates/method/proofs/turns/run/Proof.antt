@@ -1,7 +1,7 @@
 -- `method::turns::run` meets its contract.
 -- Assumes nothing.
 use Prim.Native.Nat.{ℕ, _-_, _≤_, _<_}
-use mathlib.Core.Path.{_≡_, refl, sym}
+use mathlib.Core.Path.{_≡_, refl, sym, _∙_}
 use mathlib.Core.List.{List}
 use mathlib.Core.Logic.{⊎-elim}
 use native.Mathlib.Omega.{arith}
@@ -11,7 +11,7 @@ use Rattle.market.specs.Steps.{Added}
 use Rattle.market.proofs.Adding.{never-less}
 use Rattle.market.proofs.Steps.{raised-used}
 use Rattle.method.specs.declared.Request.the-variants.{Hours}
-use Rattle.method.specs.declared.Agreed.{Agreed}
+use Rattle.offers.specs.declared.Agreed.{Agreed}
 use Rattle.method.specs.View.{line, ticket, heldIn}
 use Rattle.method.specs.State.{FreeHours, Turned}
 use Rattle.method.specs.Choice.{Asks}
@@ -140,7 +140,8 @@ late c = let search-at = search-of c in
     let l = turn .before .turns in
     let h = c .late .given .0 in
     late-hours-found (a .growers) (a .pilots) (a .t3) (a .pilot-hours) (a .t5) (l .price) (search-at .loop .held) (ask .asked .given .0 .0) (search-at .loop .giver) (h .0) (h .1 .0)
-    (c .before .before .before .before .before .before .loop-test .taken) (rw (c .late .given .1) at (c .before .before .late-here .ensures))
+    (c .before .before .before .before .before .before .loop-test .taken)
+    (sym (c .late .given .1) ∙ c .before .before .late-here .ensures)
 
 giver-small : (c : tie.In-loop Inv-loop μ-loop Inv-turns μ-turns) → let search-at = c .before in
     search-at .loop .giver < 16
@@ -277,7 +278,7 @@ loop-holds c = (refl, omega arith, none-late-start _ _ _ _)
 loop-again : tie.Need-loop-again Inv-loop μ-loop Inv-turns μ-turns
 loop-again c = let search-at = c .before .before .before .before .before .before .before in
     let v = search-at .loop .inv in
-    (v .0, omega arith, none-late-more _ _ _ _ _ (rw (v .0) at (rw (c .enum-told2 .given .1) at (c .before .before .late-here .ensures))) (v .2))
+    (v .0, omega arith, none-late-more _ _ _ _ _ (rw (v .0) at (sym (c .enum-told2 .given .1) ∙ c .before .before .late-here .ensures)) (v .2))
 
 more-requires-2 : tie.Need-more-requires-2 Inv-loop μ-loop Inv-turns μ-turns
 more-requires-2 c κs = let search-at = search-of (c .before .before .before) in

@@ -1,6 +1,6 @@
 -- `reader::copy::receive` meets its contract: the answer of the scan, of the lent length and of the filling, put together. Assumes nothing.
 use mathlib.Core.Path.{sym, _∙_}
-use Rattle.reader.specs.Groups.{bytes}
+use Rattle.groups.specs.Groups.{bytes}
 use Rattle.reader.specs.Walk.{form}
 use Rattle.reader.specs.Layout.{formOf}
 use Rattle.reader.proofs.Filling.{scanned-fills, reply-refused, reply-short, reply-filled}

@@ -6,7 +6,7 @@ use Rattle.reader.proofs.Packing.{Summing, summing-starts, summing-turn
 use borrow.Author.Needs.{needs}
 use Rattle.reader.proofs.copy.size_all.Statement.{statement}
 use Rattle.reader.proofs.copy.size_all.Tie as tie
-use Rattle.reader.proofs.groups.wide16.Reads as wide16-reads
+use Rattle.numbers.proofs.index.Reads as index-reads
 
 abbrev Inv-loop : tie.InvT-loop
 Inv-loop list total₀ k₀ k-end total k = Summing list k total
@@ -20,7 +20,7 @@ loop-holds c = summing-starts _
 add-total : tie.Need-add-total Inv-loop μ-loop
 add-total c =
     let i = c .before .before .before .before .loop .inv in
-    let t = summing-turns _ _ _ _ _ i (c .before .before .before .loop-test .taken) (c .before .wide16 .ensures .0) (c .size .ensures) in
+    let t = summing-turns _ _ _ _ _ i (c .before .before .before .loop-test .taken) (c .before .index .ensures .0) (c .size .ensures) in
     omega (arith, t .ends, c .before .before .before .before .before .before .pre)
 
 loop-again : tie.Need-loop-again Inv-loop μ-loop
@@ -28,7 +28,7 @@ loop-again c =
     summing-turns _ _ _ _ _
     (c .before .before .before .before .loop .inv)
     (c .before .before .before .loop-test .taken)
-    (c .before .wide16 .ensures .0) (c .size .ensures)
+    (c .before .index .ensures .0) (c .size .ensures)
 
 returns : tie.Need-returns Inv-loop μ-loop
 returns c = summing-ends _ _ _ (c .before .loop .inv) (c .loop-test .left)

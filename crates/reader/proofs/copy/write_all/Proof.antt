@@ -6,7 +6,7 @@ use Rattle.reader.proofs.Packing.{Packing, packing-starts, packing-room
 use borrow.Author.Needs.{needs}
 use Rattle.reader.proofs.copy.write_all.Statement.{statement}
 use Rattle.reader.proofs.copy.write_all.Tie as tie
-use Rattle.reader.proofs.groups.wide16.Reads as wide16-reads
+use Rattle.numbers.proofs.index.Reads as index-reads
 
 abbrev Inv-loop : tie.InvT-loop
 Inv-loop list out₀ here₀ k₀ k-end out here k = Packing list out₀ out k here
@@ -23,7 +23,7 @@ write-requires c κs =
     (c .before .before .before .before .loop .inv)
     _
     (c .before .before .before .loop-test .taken)
-    (c .before .wide16 .ensures .0)
+    (c .before .index .ensures .0)
     (c .before .before .before .before .before .before .before .pre)
 
 loop-again : tie.Need-loop-again Inv-loop μ-loop
@@ -32,7 +32,7 @@ loop-again c =
     (c .before .before .before .before .before .before .before .loop .inv)
     _
     (c .before .before .before .before .before .before .loop-test .taken)
-    (c .before .before .before .before .wide16 .ensures .0)
+    (c .before .before .before .before .index .ensures .0)
     _ _ (c .before .before .write .ensures .0) (c .before .before .write .ensures .1)
 
 same-length : tie.Need-same-length Inv-loop μ-loop

@@ -3,9 +3,6 @@ use borrow.Author.Needs.{needs}
 use Rattle.reader.proofs.scan.read.Statement.{statement}
 use Rattle.reader.proofs.scan.read.Tie as tie
 
-number-requires : tie.Need-number-requires
-number-requires c κs = rw (c .enum-told .given .1) at (c .before .before .before .before .pre)
-
 returns : tie.Need-returns
 returns c = rw (c .before .enum-told .given .1) (c .number .ensures)
 
@@ -15,4 +12,4 @@ returns-2 c = rw (c .before .enum-told2 .given .1) (c .entry .ensures)
 pub read-spec : {M : Type 1} → statement M
 read-spec =
     tie.close
-    (tie.spec (λ c. search needs) number-requires (λ c. search needs) (λ c κs. search needs) returns returns-2)
+    (tie.spec (λ c. search needs) (λ c κs. search needs) (λ c. search needs) (λ c κs. search needs) returns returns-2)

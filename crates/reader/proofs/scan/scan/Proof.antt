@@ -2,7 +2,8 @@
 use mathlib.Core.Path.{_≡_, _∙_}
 use native.Mathlib.Omega.{arith}
 use Rattle.reader.specs.Steps.{readOf, heldIn, begun, goneOn}
-use Rattle.reader.proofs.Running.{source-ending, begun-ready, head-goes, scan-closes}
+use Rattle.reader.proofs.LayoutLaws.{start-known}
+use Rattle.reader.proofs.Running.{source-ending, head-goes, scan-closes}
 use borrow.Author.Needs.{needs}
 use Rattle.reader.proofs.scan.scan.Statement.{statement}
 use Rattle.reader.proofs.scan.scan.Tie as tie
@@ -14,10 +15,10 @@ headed : (c : tie.After-walk) →
 headed c = rw (c .before .begun .ensures) at (c .walk .ensures)
 
 walk-requires : tie.Need-walk-requires
-walk-requires c κs = rw (c .begun .ensures) (begun-ready _, search needs)
+walk-requires c κs = rw (c .begun .ensures) (start-known, search needs)
 
 body-of-requires : tie.Need-body-of-requires
-body-of-requires c κs = head-goes _ _ _ _ (headed (c .before)) .0 .known
+body-of-requires c κs = head-goes _ _ _ _ (headed (c .before)) .0
 
 walk-requires-2 : tie.Need-walk-requires-2
 walk-requires-2 c κs =

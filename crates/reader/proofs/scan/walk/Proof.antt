@@ -20,13 +20,10 @@ loop-holds c = running-starts _ _ _ _ _ (c .before .before .pre .0)
 returns : tie.Need-returns Inv-loop μ-loop
 returns c = running-refused _ _ _ (c .before .before .loop .inv) (c .if1 .taken)
 
-read-requires : tie.Need-read-requires Inv-loop μ-loop
-read-requires c κs = c .before .before .before .loop .inv .ready .within
-
 step-requires : tie.Need-step-requires Inv-loop μ-loop
 step-requires c κs =
     let i = c .before .before .before .before .loop .inv in
-    (i .ready .known, omega (arith, i .place, c .before .before .before .before .before .before .before .pre .1))
+    (i .known, omega (arith, i .place, c .before .before .before .before .before .before .before .pre .1))
 
 loop-again : tie.Need-loop-again Inv-loop μ-loop
 loop-again c =
@@ -45,7 +42,7 @@ walk-spec =
     μ-loop
     loop-holds
     returns
-    read-requires
+    (λ c κs. search needs)
     step-requires
     (λ c. search needs)
     (λ c. search needs)

@@ -9,13 +9,13 @@ returns : tie.Need-returns
 returns c =
     let a = c .before .before .before .args in
     let same = cap-fields (a .k) (a .s) (a .x) (c .before .before .match .keys1) in
-    (c .must .ensures ∙ same .0, c .before .moved .ensures ∙ same .1)
+    (c .fault-of .ensures ∙ same .0, c .before .moved .ensures ∙ same .1)
 
 returns-2 : tie.Need-returns-2
 returns-2 c =
     let a = c .before .before .before .args in
     let same = amount-fields (a .k) (a .s) (a .x) (c .before .before .match .rest .1) in
-    (c .amount-fault .ensures ∙ same .0, c .before .moved2 .ensures ∙ same .1)
+    (c .fault-of2 .ensures ∙ same .0, c .before .moved2 .ensures ∙ same .1)
 
 pub deal-check-spec : {M : Type 1} → statement M
 deal-check-spec =

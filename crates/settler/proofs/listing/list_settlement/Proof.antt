@@ -3,7 +3,8 @@
 use Prim.Native.Nat.{_-_, _/_, _%_, _≤_, _<_}
 use mathlib.Core.Path.{refl}
 use native.Mathlib.Omega.{arith}
-use Rattle.grid.proofs.Places.{inside, prod-small}
+use Rattle.grid.proofs.Places.{inside}
+use Rattle.numbers.proofs.Products.{prod-small}
 use Rattle.settler.proofs.ListLaws.{ListedTo, listed-start, listed-more, listed-end}
 use borrow.Author.Needs.{needs}
 use Rattle.settler.proofs.listing.list_settlement.Statement.{statement}

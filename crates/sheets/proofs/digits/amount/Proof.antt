@@ -4,8 +4,8 @@ use mathlib.Core.Path.{_∙_, ap}
 use native.Mathlib.Omega.{arith}
 use borrow.Author.Needs.{needs}
 use Rattle.amounts.specs.Packed.{packed}
-use Rattle.sheets.proofs.PageWriting.{wrote-same}
-use Rattle.sheets.proofs.Spelling.{Digits, packed-apart, digits-small, packed-spelled}
+use Rattle.bytes.proofs.PageWriting.{wrote-same}
+use Rattle.sheets.proofs.PackedDigits.{Digits, packed-apart, digits-small, packed-spelled}
 use Rattle.sheets.proofs.digits.amount.Statement.{statement}
 use Rattle.sheets.proofs.digits.amount.Tie as tie
 

@@ -1,8 +1,8 @@
 -- `sheets::digits::count` meets its contract: the number's three digits are spelled.
 -- Assumes nothing.
 use borrow.Author.Needs.{needs}
-use Rattle.sheets.proofs.PageWriting.{wrote-same}
-use Rattle.sheets.proofs.Spelling.{decimal-is}
+use Rattle.bytes.proofs.PageWriting.{wrote-same}
+use Rattle.bytes.proofs.Spelling.{decimal-is}
 use Rattle.sheets.proofs.digits.count.Statement.{statement}
 use Rattle.sheets.proofs.digits.count.Tie as tie
 

@@ -1,8 +1,8 @@
 -- `sheets::digits::spell` meets its contract: from the first digit that is not 0 on, each is put after the other.
 -- Assumes nothing.
 use borrow.Author.Needs.{needs}
-use Rattle.sheets.proofs.PageWriting.{wrote-then, wrote-same}
-use Rattle.sheets.proofs.Spelling.{units-alone, tens-first, hundreds-first}
+use Rattle.bytes.proofs.PageWriting.{wrote-then, wrote-same}
+use Rattle.bytes.proofs.Spelling.{units-alone, tens-first, hundreds-first}
 use Rattle.sheets.proofs.digits.spell.Statement.{statement}
 use Rattle.sheets.proofs.digits.spell.Tie as tie
 

@@ -4,7 +4,7 @@ use mathlib.Core.Path.{refl}
 use Prim.Native.Nat.{_≤_, _-_}
 use native.Mathlib.Omega.{arith}
 use borrow.Author.Needs.{needs}
-use Rattle.sheets.proofs.LineLaws.{Lining, lining-starts, lining-turns, lining-ends}
+use Rattle.bytes.proofs.LineLaws.{Lining, lining-starts, lining-turns, lining-ends}
 use Rattle.sheets.proofs.lines.amounts.Statement.{statement}
 use Rattle.sheets.proofs.lines.amounts.Tie as tie
 

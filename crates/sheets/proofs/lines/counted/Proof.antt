@@ -2,8 +2,8 @@
 -- Assumes nothing.
 use native.Mathlib.Omega.{arith}
 use borrow.Author.Needs.{needs}
-use Rattle.sheets.proofs.PageWriting.{wrote-then}
-use Rattle.sheets.proofs.Spelling.{decimal-short}
+use Rattle.bytes.proofs.PageWriting.{wrote-then}
+use Rattle.bytes.proofs.Spelling.{decimal-short}
 use Rattle.sheets.proofs.lines.counted.Statement.{statement}
 use Rattle.sheets.proofs.lines.counted.Tie as tie
 

@@ -1,7 +1,7 @@
 -- `sheets::lines::separator_at` meets its contract: a space where another number follows, else the end of the line.
 -- Assumes nothing.
 use borrow.Author.Needs.{needs}
-use Rattle.sheets.proofs.LineLaws.{separator-inside, separator-last}
+use Rattle.bytes.proofs.LineLaws.{separator-inside, separator-last}
 use Rattle.sheets.proofs.lines.separator_at.Statement.{statement}
 use Rattle.sheets.proofs.lines.separator_at.Tie as tie
 

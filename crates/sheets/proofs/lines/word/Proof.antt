@@ -5,8 +5,8 @@ use Prim.Native.Nat.{_≤_, _-_}
 use native.Mathlib.Omega.{arith}
 use lib.ListN.{take}
 use borrow.Author.Needs.{needs}
-use Rattle.sheets.specs.Writing.{Wrote}
-use Rattle.sheets.proofs.PageWriting.{wrote-nothing, wrote-room, wrote-more, wrote-all}
+use Rattle.bytes.specs.Writing.{Wrote}
+use Rattle.bytes.proofs.PageWriting.{wrote-nothing, wrote-room, wrote-more, wrote-all}
 use Rattle.sheets.proofs.lines.word.Statement.{statement}
 use Rattle.sheets.proofs.lines.word.Tie as tie
 

@@ -5,7 +5,7 @@ use Prim.Native.Nat.{_*_, _-_, _≤_}
 use native.Mathlib.Omega.{arith}
 use borrow.Author.Needs.{needs}
 use Rattle.grid.proofs.Places.{Inside, inside}
-use Rattle.sheets.specs.Writing.{Wrote}
+use Rattle.bytes.specs.Writing.{Wrote}
 use Rattle.sheets.specs.Sheet.{pairLines}
 use Rattle.sheets.specs.Squares.{lineIn}
 use Rattle.sheets.proofs.PairLaws.{no-pairs, turn-fits, turn-writes}

@@ -5,7 +5,7 @@ use mathlib.Core.List.{[], _∷_}
 use native.Mathlib.Omega.{arith}
 use lib.ListN.{getD}
 use borrow.Author.Needs.{needs}
-use Rattle.sheets.proofs.PageWriting.{wrote-then}
+use Rattle.bytes.proofs.PageWriting.{wrote-then}
 use Rattle.sheets.proofs.settled.header.Statement.{statement}
 use Rattle.sheets.proofs.settled.header.Tie as tie
 

@@ -2,7 +2,7 @@
 -- Assumes nothing.
 use native.Mathlib.Omega.{arith}
 use borrow.Author.Needs.{needs}
-use Rattle.sheets.specs.Writing.{Wrote}
+use Rattle.bytes.specs.Writing.{Wrote}
 use Rattle.sheets.specs.Sheet.{headOf}
 use Rattle.sheets.proofs.SheetLaws.{few-growers, few-pilots, head-short, last-fits, sheet-whole}
 use Rattle.sheets.proofs.settled.settled_text.Statement.{statement}

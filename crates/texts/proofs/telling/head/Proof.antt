@@ -2,7 +2,7 @@
 -- Assumes nothing.
 use native.Mathlib.Omega.{arith}
 use borrow.Author.Needs.{needs}
-use Rattle.sheets.proofs.PageWriting.{wrote-then}
+use Rattle.bytes.proofs.PageWriting.{wrote-then}
 use Rattle.texts.proofs.LineWriting.{room-after, field-short}
 use Rattle.texts.proofs.telling.head.Statement.{statement}
 use Rattle.texts.proofs.telling.head.Tie as tie

@@ -4,9 +4,9 @@ use mathlib.Core.Path.{_≡_, ap, _∙_}
 use native.Mathlib.Omega.{arith}
 use lib.ListN.{length, take}
 use borrow.Author.Needs.{needs}
-use Rattle.sheets.specs.Decimal.{decimal}
-use Rattle.sheets.proofs.Spelling.{decimal-short}
-use Rattle.sheets.proofs.PageWriting.{wrote-same}
+use Rattle.bytes.specs.Decimal.{decimal}
+use Rattle.bytes.proofs.Spelling.{decimal-short}
+use Rattle.bytes.proofs.PageWriting.{wrote-same}
 use Rattle.texts.proofs.LineWriting.{fewest-decimal}
 use Rattle.texts.proofs.telling.number.Statement.{statement}
 use Rattle.texts.proofs.telling.number.Tie as tie

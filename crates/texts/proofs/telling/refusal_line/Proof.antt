@@ -2,8 +2,8 @@
 -- Assumes nothing.
 use native.Mathlib.Omega.{arith}
 use borrow.Author.Needs.{needs}
-use Rattle.sheets.proofs.PageWriting.{wrote-then}
-use Rattle.sheets.proofs.Spelling.{decimal-short}
+use Rattle.bytes.proofs.PageWriting.{wrote-then}
+use Rattle.bytes.proofs.Spelling.{decimal-short}
 use Rattle.texts.proofs.LineWriting.{room-after}
 use Rattle.texts.proofs.telling.refusal_line.Statement.{statement}
 use Rattle.texts.proofs.telling.refusal_line.Tie as tie

@@ -1,0 +1,3 @@
+pub mod PageWriting
+pub mod Spelling
+pub mod LineLaws

@@ -1,0 +1,4 @@
+-- What the texts of this project are made of, each file over those above it.
+pub mod Decimal
+pub mod Lines
+pub mod Writing

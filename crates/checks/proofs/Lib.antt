@@ -1,0 +1,2 @@
+-- The laws of `checks`, which `reader` cites.
+pub mod FaultLaws

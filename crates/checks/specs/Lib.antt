@@ -1,0 +1,4 @@
+-- The definitions that the contracts of `checks` cite.
+pub mod Refusals
+pub mod TicketFaults
+pub mod SettlementFaults

@@ -1,0 +1,13 @@
+// What is wrong with one number of a document: its refusal number, or 0 if nothing is.
+
+mod refusals; // refusals.rt: the refusal numbers
+mod settlement; // settlement.rt: the places of a settlement
+mod ticket; // ticket.rt: the fields of a ticket
+
+pub use refusals::Document;
+pub use refusals::NO_ROOM;
+pub use refusals::Refusals;
+pub use refusals::refusals_of;
+pub use settlement::settlement_fault;
+pub use ticket::Field;
+pub use ticket::fault_of;

@@ -1,0 +1,53 @@
+// Numbers and lists of numbers: how many, how wide, and where. Nearly every crate needs these; each answers on every input.
+mod lists;
+
+ghost use mathlib.Core.Path.{_≡_};
+ghost use Prim.Native.Nat.{_*_, _-_, _<_, min};
+pub use lists::entry;
+pub use lists::front;
+pub use lists::settlement_list;
+pub use lists::ticket_list;
+
+// How many growers, and how many pilots, a square has room for.
+pub const SIDE: usize = 16;
+
+// As many of so many growers, or pilots, as a square has room for.
+pub fn within(count: usize) -> usize
+    ensures { λ r. ⌜ (r ≡ min 16 count) × (r < 17) ⌝ }
+{
+    if count < SIDE { count } else { SIDE }
+}
+
+// How many pairs those make. The product is proved to fit here, once.
+pub fn pairs(growers: usize, pilots: usize) -> usize
+    ensures { λ r. ⌜ (r ≡ min 16 growers * min 16 pilots) × (growers < 17 → pilots < 17 → r ≡ growers * pilots) × (r < 257) ⌝ }
+{
+    within(growers) * within(pilots)
+}
+
+// A number at the width that sums are taken in.
+pub fn wide(x: u16) -> u32
+    ensures { λ r. ⌜ (r ≡ x) × (r < 65536) ⌝ }
+{
+    x as u32
+}
+
+// A number of a list as a count or a place.
+pub fn index(x: u16) -> usize
+    ensures { λ r. ⌜ (r ≡ x) × (r < 65536) ⌝ }
+{
+    x as usize
+}
+
+// The difference, but 0 if y is greater; and of wide numbers.
+pub fn less(x: u16, y: u16) -> u16
+    ensures { λ r. ⌜ r ≡ x - y ⌝ }
+{
+    if y < x { x - y } else { 0 }
+}
+
+pub fn less_wide(x: u32, y: u32) -> u32
+    ensures { λ r. ⌜ r ≡ x - y ⌝ }
+{
+    if x < y { 0 } else { x - y }
+}

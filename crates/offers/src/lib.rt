@@ -1,0 +1,58 @@
+// What the deals of one pair offer its grower at the pilot's price, which of its hours are late, and how far it bears a rise of that
+// price. Each function answers on every input.
+mod arith;
+mod chances;
+mod late;
+mod limits;
+
+pub use chances::better;
+pub use chances::free_chance;
+pub use late::late_here;
+pub use limits::grower_slack;
+pub use limits::pilot_slack;
+pub use limits::worth_here;
+use market::Deal;
+
+// Above 18 times every amount: no price rises higher.
+pub const TOP: u32 = 1179631;
+
+// More than any hour is worth.
+pub const MANY: u32 = 2000000;
+
+// What the ticket says of a grower and a pilot: caps in hours, amounts in euros per hour.
+pub struct Terms {
+    pub tariff_cap: u16,
+    pub tariff_gain: u16,
+    pub tariff_pay: u16,
+    pub free_cap: u16,
+    pub joint_gain: u16,
+}
+
+// The hours that a grower and a pilot hold: by the tariff, and in the free deal the old ones, agreed before the last rise of the
+// pilot's price, and the new ones.
+pub struct Agreed {
+    pub by_tariff: u16,
+    pub old_free: u16,
+    pub new_free: u16,
+}
+
+// The greatest chance so far: with which pilot, and which of their deals.
+pub struct Choice {
+    pub top: u32,
+    pub pilot: usize,
+    pub deal: Deal,
+}
+
+// Late hours of a pilot with one grower: in which of their deals, and how many.
+pub enum LateHours {
+    NoHours,
+    Hours(Deal, u16),
+}
+
+// How far a grower bears a rise of the marked pilots' prices, so far: what his tariff hours with them bear, the least that a free hour with
+// them is worth to him, and the most that his other open deals offer.
+pub struct Slack {
+    pub paid: u32,
+    pub low: u32,
+    pub top: u32,
+}

@@ -1,0 +1,78 @@
+// How far a rise of the marked pilots' prices is borne. No free hour with a marked pilot may become worth less than another open deal, no
+// tariff hour of his may pay too little, and he has no free hour.
+ghost use mathlib.Core.Path.{_≡_};
+ghost use Rattle.offers.specs.Limits.{worthHere, tariffSlack, outsideOf, growerSlack, pilotSlack};
+use crate::Agreed;
+use crate::MANY;
+use crate::Slack;
+use crate::TOP;
+use crate::Terms;
+use crate::arith::least;
+use crate::arith::most;
+use crate::chances::free_chance;
+use crate::chances::tariff_chance;
+use numbers::less_wide;
+use numbers::wide;
+
+// The least that a free hour with one pilot is worth to its grower, if the pilot is marked and there is one.
+pub fn worth_here(marked: bool, terms: Terms, agreed: Agreed, price: u32) -> u32
+    ensures { λ r. ⌜ r ≡ worthHere marked terms agreed price ⌝ }
+{
+    if !marked {
+        return MANY;
+    }
+    if 0 < agreed.new_free {
+        return less_wide(18 * wide(terms.joint_gain) + 1, price);
+    }
+    if 0 < agreed.old_free {
+        return less_wide(18 * wide(terms.joint_gain) + 2, price);
+    }
+    MANY
+}
+
+// At most `by`, and what the tariff hours of a pilot with one grower bear, if he is marked.
+fn tariff_slack(by: u32, marked: bool, terms: Terms, agreed: Agreed, price: u32) -> u32
+    ensures { λ r. ⌜ r ≡ tariffSlack by marked terms agreed price ⌝ }
+{
+    if marked {
+        if 0 < agreed.by_tariff {
+            return least(by, less_wide(18 * wide(terms.tariff_pay) + 1, price));
+        }
+    }
+    by
+}
+
+// The greater of a grower's chances with one pilot, but for the free deal with a marked one.
+fn outside(marked: bool, terms: Terms, agreed: Agreed, price: u32) -> u32
+    ensures { λ r. ⌜ r ≡ outsideOf marked terms agreed price ⌝ }
+{
+    let tariff = tariff_chance(terms, agreed, price);
+    if marked {
+        return tariff;
+    }
+    most(tariff, free_chance(terms, agreed, price))
+}
+
+// How far a grower bears it, with one more pilot.
+pub fn grower_slack(slack: Slack, marked: bool, terms: Terms, agreed: Agreed, price: u32) -> Slack
+    ensures { λ r. ⌜ r ≡ growerSlack slack marked terms agreed price ⌝ }
+{
+    Slack {
+        paid: tariff_slack(slack.paid, marked, terms, agreed, price),
+        low: least(slack.low, worth_here(marked, terms, agreed, price)),
+        top: most(slack.top, outside(marked, terms, agreed, price)),
+    }
+}
+
+// At most `by`, and what a pilot bears by himself, if he is marked: nothing, if he has a free hour.
+pub fn pilot_slack(by: u32, marked: bool, free: u16, price: u32) -> u32
+    ensures { λ r. ⌜ r ≡ pilotSlack by marked free price ⌝ }
+{
+    if !marked {
+        return by;
+    }
+    if 0 < free {
+        return 0;
+    }
+    least(by, less_wide(TOP, price))
+}
