@@ -205,12 +205,12 @@ class Settlement:
         """Verdict, grower, pilot, deal, count."""
         ticket = self.ticket
         for pair in ticket.pairs:
-            tariff_hours, free_hours, v = self.rows[pair]
+            tariff_hours, free_deal_hours, v = self.rows[pair]
             if tariff_hours > ticket.cap(pair, TARIFF):
                 return (2, *pair, TARIFF, 0)
-            if free_hours > ticket.cap(pair, FREE):
+            if free_deal_hours > ticket.cap(pair, FREE):
                 return (3, *pair, FREE, 0)
-            if v > ticket.terms[pair][4] or (free_hours == 0 and v != 0):
+            if v > ticket.terms[pair][4] or (free_deal_hours == 0 and v != 0):
                 return (4, *pair, FREE, 0)
         for grower in range(ticket.n):
             if self.free_hours(0, grower) < 0:
@@ -231,10 +231,10 @@ class Settlement:
 
     def sheet(self):
         lines = ["SHEET %d %d" % (self.ticket.n, self.ticket.m)]
-        for (i, j), (tariff_hours, free_hours, v) in self.rows.items():
-            if tariff_hours + free_hours > 0:
+        for (i, j), (tariff_hours, free_deal_hours, v) in self.rows.items():
+            if tariff_hours + free_deal_hours > 0:
                 _, a, b, _, c = self.ticket.terms[i, j]
-                lines.append("%d %d %d %d %d %d %d %d" % (i, j, tariff_hours, a, b, free_hours, c - v if free_hours else 0, v))
+                lines.append("%d %d %d %d %d %d %d %d" % (i, j, tariff_hours, a, b, free_deal_hours, c - v if free_deal_hours else 0, v))
         lines.append("SOUND %d" % self.verdict()[4])
         return "".join(line + "\n" for line in lines)
 
@@ -340,8 +340,8 @@ def shown_settlement(ticket, text):
     """The settlement that a sheet shows, if it is laid out as a sheet of this ticket."""
     rows = {pair: [0, 0, 0] for pair in ticket.pairs}
     for line in text.split("\n")[1:-2]:
-        i, j, tariff_hours, _, _, free_hours, _, v = (int(word) for word in line.split(" "))
-        rows[i, j] = [tariff_hours, free_hours, v]
+        i, j, tariff_hours, _, _, free_deal_hours, _, v = (int(word) for word in line.split(" "))
+        rows[i, j] = [tariff_hours, free_deal_hours, v]
     return Settlement(ticket, [2, ticket.n, ticket.m, *itertools.chain(*rows.values())])
 
 

@@ -68,7 +68,7 @@ fn any_agreement(generator: &mut Generator, _: &Terms) -> Agreement {
     let most = generator.one_of(&[0, 1, 60, 500, 16383]);
     Agreement {
         tariff_hours: generator.between(0, most),
-        free_hours: generator.between(0, most),
+        free_deal_hours: generator.between(0, most),
         pay: generator.between(0, most),
     }
 }
@@ -85,14 +85,14 @@ fn drawn(
     settlement
 }
 
-/// Free hours up to `most`, with a pay that is right.
+/// Free-deal hours up to `most`, with a pay that is right.
 fn free_part(generator: &mut Generator, terms: &Terms, most: u16) -> Agreement {
-    let free_hours = generator.between(0, most);
+    let free_deal_hours = generator.between(0, most);
     let pay = generator.between(0, terms.joint_gain);
     Agreement {
         tariff_hours: 0,
-        free_hours,
-        pay: if free_hours == 0 { 0 } else { pay },
+        free_deal_hours,
+        pay: if free_deal_hours == 0 { 0 } else { pay },
     }
 }
 
@@ -107,13 +107,13 @@ fn within_hours(generator: &mut Generator, ticket: &Ticket) -> Settlement {
         let (grower, pilot) = (pair / ticket.pilots(), pair % ticket.pilots());
         let most = growers[grower].min(pilots[pilot]);
         let mut agreement = free_part(generator, terms, most.min(terms.free_cap));
-        let left = terms.tariff_cap.min(most - agreement.free_hours);
+        let left = terms.tariff_cap.min(most - agreement.free_deal_hours);
         agreement.tariff_hours = if full {
             left
         } else {
             generator.between(0, left)
         };
-        let taken = agreement.tariff_hours + agreement.free_hours;
+        let taken = agreement.tariff_hours + agreement.free_deal_hours;
         growers[grower] -= taken;
         pilots[pilot] -= taken;
         settlement.agreements[pair] = agreement;
@@ -127,7 +127,7 @@ fn one_field_changed(generator: &mut Generator, sound: &Settlement) -> Settlemen
     let agreement = &mut settlement.agreements[pair];
     let field = match generator.below(3) {
         0 => &mut agreement.tariff_hours,
-        1 => &mut agreement.free_hours,
+        1 => &mut agreement.free_deal_hours,
         _ => &mut agreement.pay,
     };
     *field = match generator.below(4) {
@@ -147,17 +147,17 @@ fn hour_moved(generator: &mut Generator, sound: &Settlement) -> Settlement {
     let giver = &mut settlement.agreements[from];
     if giver.tariff_hours > 0 {
         giver.tariff_hours -= 1;
-    } else if giver.free_hours > 0 {
-        giver.free_hours -= 1;
+    } else if giver.free_deal_hours > 0 {
+        giver.free_deal_hours -= 1;
     }
-    if giver.free_hours == 0 {
+    if giver.free_deal_hours == 0 {
         giver.pay = 0;
     }
     let taker = &mut settlement.agreements[to];
     if generator.once_in(2) {
         taker.tariff_hours += 1;
     } else {
-        taker.free_hours += 1;
+        taker.free_deal_hours += 1;
     }
     settlement
 }

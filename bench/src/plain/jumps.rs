@@ -40,7 +40,7 @@ fn tied(state: &State, pilot: usize) -> Marks {
     }
 }
 
-/// Marks every pilot whose free deal offers the grower as much as his least free hour with a marked one, or one less.
+/// Marks every pilot whose free deal offers the grower as much as his least free-deal hour with a marked one, or one less.
 fn tie_in(state: &State, grower: usize, marks: &mut Marks) {
     let low = least_worth(state, grower, marks).saturating_sub(1);
     for ((offer, held, price), mark) in row(state, grower).zip(marks) {
@@ -57,7 +57,7 @@ fn row(state: &State, grower: usize) -> impl Iterator<Item = (&Offer, &Held, u32
         .map(|((offer, held), &price)| (offer, held, price))
 }
 
-/// The least that a free hour of a grower with a marked pilot is worth to him, and 1.
+/// The least that a free-deal hour of a grower with a marked pilot is worth to him, and 1.
 fn least_worth(state: &State, grower: usize, marks: &Marks) -> u32 {
     row(state, grower)
         .zip(marks)
@@ -89,7 +89,7 @@ fn top_outside(state: &State, grower: usize, marks: &Marks) -> u32 {
     top
 }
 
-/// How far prices may rise before a free hour is worth less to some grower than another deal.
+/// How far prices may rise before a free-deal hour is worth less to some grower than another deal.
 fn growers_slack(state: &State, marks: &Marks) -> u32 {
     (0..state.growers)
         .map(|grower| {

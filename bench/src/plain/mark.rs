@@ -173,7 +173,7 @@ impl Market<'_> {
         let (terms, agreement) = self.pair(place.grower, place.pilot);
         match place.deal {
             Deal::Tariff => agreement.tariff_hours < terms.tariff_cap,
-            Deal::Free => agreement.free_hours < terms.free_cap,
+            Deal::Free => agreement.free_deal_hours < terms.free_cap,
         }
     }
 
@@ -259,10 +259,10 @@ fn pair_fault(terms: &Terms, agreement: &Agreement) -> Option<(Finding, Deal)> {
     if agreement.tariff_hours > terms.tariff_cap {
         return Some((Finding::TariffOverCap, Deal::Tariff));
     }
-    if agreement.free_hours > terms.free_cap {
+    if agreement.free_deal_hours > terms.free_cap {
         return Some((Finding::FreeOverCap, Deal::Free));
     }
-    let most_pay = if agreement.free_hours == 0 {
+    let most_pay = if agreement.free_deal_hours == 0 {
         0
     } else {
         terms.joint_gain
@@ -271,15 +271,15 @@ fn pair_fault(terms: &Terms, agreement: &Agreement) -> Option<(Finding, Deal)> {
 }
 
 fn hours_of_both(agreement: &Agreement) -> u32 {
-    u32::from(agreement.tariff_hours) + u32::from(agreement.free_hours)
+    u32::from(agreement.tariff_hours) + u32::from(agreement.free_deal_hours)
 }
 
-/// The hours of a deal, and what each is worth to its grower. The pay of a free hour is at most the joint gain; of no
+/// The hours of a deal, and what each is worth to its grower. The pay of a free-deal hour is at most the joint gain; of no
 /// hours the worth means nothing.
 pub fn grower_earns(terms: &Terms, agreement: &Agreement, deal: Deal) -> (u16, u16) {
     match deal {
         Deal::Tariff => (agreement.tariff_hours, terms.tariff_gain),
-        Deal::Free => (agreement.free_hours, terms.joint_gain - agreement.pay),
+        Deal::Free => (agreement.free_deal_hours, terms.joint_gain - agreement.pay),
     }
 }
 
@@ -287,7 +287,7 @@ pub fn grower_earns(terms: &Terms, agreement: &Agreement, deal: Deal) -> (u16, u
 pub fn pilot_earns(terms: &Terms, agreement: &Agreement, deal: Deal) -> (u16, u16) {
     match deal {
         Deal::Tariff => (agreement.tariff_hours, terms.tariff_pay),
-        Deal::Free => (agreement.free_hours, agreement.pay),
+        Deal::Free => (agreement.free_deal_hours, agreement.pay),
     }
 }
 

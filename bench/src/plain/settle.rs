@@ -70,7 +70,7 @@ pub(super) struct Offer {
     pub(super) joint_gain: u32,
 }
 
-/// The hours of a pair. Free hours are new if they were agreed at the pilot's price, and old if at one part less.
+/// The hours of a pair. Free-deal hours are new if they were agreed at the pilot's price, and old if at one part less.
 #[derive(Clone, Copy, Default)]
 pub(super) struct Held {
     pub(super) tariff: u32,
@@ -109,7 +109,7 @@ impl Offer {
         }
     }
 
-    /// The same for one more free hour at the pilot's price.
+    /// The same for one more free-deal hour at the pilot's price.
     pub(super) fn free_chance(&self, held: &Held, price: u32) -> u32 {
         if held.old + held.new < self.free_cap {
             (self.joint_gain + 1).saturating_sub(price)
@@ -280,10 +280,10 @@ impl State {
 }
 
 fn agreed(held: &Held, euros: u32) -> Agreement {
-    let free_hours = held.old + held.new;
+    let free_deal_hours = held.old + held.new;
     Agreement {
         tariff_hours: held.tariff as u16,
-        free_hours: free_hours as u16,
-        pay: if free_hours > 0 { euros as u16 } else { 0 },
+        free_deal_hours: free_deal_hours as u16,
+        pay: if free_deal_hours > 0 { euros as u16 } else { 0 },
     }
 }

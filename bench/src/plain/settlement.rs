@@ -10,8 +10,8 @@ const KIND: u16 = 2;
 #[derive(Clone, Copy, Debug, Default, PartialEq, Eq)]
 pub struct Agreement {
     pub tariff_hours: u16,
-    pub free_hours: u16,
-    /// The pilot's pay per free hour.
+    pub free_deal_hours: u16,
+    /// The pilot's pay per free-deal hour.
     pub pay: u16,
 }
 
@@ -42,7 +42,7 @@ impl Settlement {
         for agreement in &mut settlement.agreements {
             *agreement = Agreement {
                 tariff_hours: next_number(&mut source)?,
-                free_hours: next_number(&mut source)?,
+                free_deal_hours: next_number(&mut source)?,
                 pay: next_number(&mut source)?,
             };
         }
@@ -62,7 +62,11 @@ impl Settlement {
         let mut numbers = Vec::with_capacity(3 + 3 * self.agreements.len());
         numbers.extend([KIND, self.growers as u16, self.pilots as u16]);
         for agreement in &self.agreements {
-            numbers.extend([agreement.tariff_hours, agreement.free_hours, agreement.pay]);
+            numbers.extend([
+                agreement.tariff_hours,
+                agreement.free_deal_hours,
+                agreement.pay,
+            ]);
         }
         numbers
     }

@@ -62,14 +62,14 @@ fn write_pair(
 ) {
     let Agreement {
         tariff_hours,
-        free_hours,
+        free_deal_hours,
         pay,
     } = *agreement;
-    if tariff_hours == 0 && free_hours == 0 {
+    if tariff_hours == 0 && free_deal_hours == 0 {
         return;
     }
     let (gain, tariff_pay) = (terms.tariff_gain, terms.tariff_pay);
-    let share = if free_hours == 0 {
+    let share = if free_deal_hours == 0 {
         0
     } else {
         terms.joint_gain - pay
@@ -77,7 +77,7 @@ fn write_pair(
     push_line(
         text,
         format_args!(
-            "{grower} {pilot} {tariff_hours} {gain} {tariff_pay} {free_hours} {share} {pay}"
+            "{grower} {pilot} {tariff_hours} {gain} {tariff_pay} {free_deal_hours} {share} {pay}"
         ),
     );
 }

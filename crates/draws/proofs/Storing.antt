@@ -83,13 +83,13 @@ five-stored l i a b c d e =
     let f₄ : i + 4 ≡ suc (suc (suc (suc i))) = omega arith in
     rw (f₁, f₂, f₃, f₄)
 
-pub pair-stored : (l : List ℕ) (i x₀ x₁ x₂ x₃ x₄ x₅ tariffCap gain pay freeCap joint : ℕ) →
+pub pair-stored : (l : List ℕ) (i x₀ x₁ x₂ x₃ x₄ x₅ tariffCap gain pay freeCap jointGain : ℕ) →
     x₁ ≡ next x₀ → x₂ ≡ next x₁ → x₃ ≡ next x₂ → x₄ ≡ next x₃ → x₅ ≡ next x₄ →
     tariffCap ≡ capFrom x₀ → gain ≡ tariffAmount tariffCap x₁ → pay ≡ tariffAmount tariffCap x₂ → freeCap ≡ capFrom x₃ →
-    joint ≡ jointAmount freeCap x₄ →
+    jointGain ≡ jointAmount freeCap x₄ →
     (x₅ ≡ after 5 x₀)
-    × (set (set (set (set (set l i tariffCap) (i + 1) gain) (i + 2) pay) (i + 3) freeCap) (i + 4) joint ≡ sets l i (drawnPair x₀))
-pair-stored l i x₀ x₁ x₂ x₃ x₄ x₅ tariffCap gain pay freeCap joint e₁ e₂ e₃ e₄ e₅ et eg ep ef ej =
+    × (set (set (set (set (set l i tariffCap) (i + 1) gain) (i + 2) pay) (i + 3) freeCap) (i + 4) jointGain ≡ sets l i (drawnPair x₀))
+pair-stored l i x₀ x₁ x₂ x₃ x₄ x₅ tariffCap gain pay freeCap jointGain e₁ e₂ e₃ e₄ e₅ et eg ep ef ej =
     rw (ej, ef, ep, eg, et, e₅, e₄, e₃, e₂, e₁) (refl, five-stored l i _ _ _ _ _)
 
 -- How many numbers there are.

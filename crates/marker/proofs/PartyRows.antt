@@ -32,20 +32,20 @@ party-is p k own had worth tariff free earned share e h w = rw e (record {
     used = sum-same _ _ k (λ l hl. omega (arith, h Tariff l hl, h Free l hl))
 
 -- a grower of the rows of squares
-module _ (n m : ℕ) (own : List ℕ) (tariffHours freeHours tariffGain jointGain pay shares : Grid)
+module _ (n m : ℕ) (own : List ℕ) (tariffHours freeDealHours tariffGain jointGain pay shares : Grid)
     (fs : Filled (λ i j. at jointGain i j - at pay i j) n m shares) (i : ℕ) (hi : i < n) where
-  grower-had : (e : Deal) (l : ℕ) → lines (getD tariffHours i []) (getD freeHours i []) e l ≡
-      settlementIn tariffHours freeHours pay .hours e i l
+  grower-had : (e : Deal) (l : ℕ) → lines (getD tariffHours i []) (getD freeDealHours i []) e l ≡
+      settlementIn tariffHours freeDealHours pay .hours e i l
   grower-had Tariff l = refl
   grower-had Free l = refl
 
   grower-worth : (e : Deal) (l : ℕ) → l < m → lines (getD tariffGain i []) (getD shares i []) e l ≡
-      earnedByGrower (ticketIn n m own [] [] tariffGain [] [] jointGain) (settlementIn tariffHours freeHours pay) e i l
+      earnedByGrower (ticketIn n m own [] [] tariffGain [] [] jointGain) (settlementIn tariffHours freeDealHours pay) e i l
   grower-worth Tariff l hl = refl
   grower-worth Free l hl = fs .inner i l hi hl
 
-  pub grower-is : (p : Party) → p ≡ partyAt own tariffHours freeHours tariffGain shares m i →
-      IsGrower (ticketIn n m own [] [] tariffGain [] [] jointGain) (settlementIn tariffHours freeHours pay) i p
+  pub grower-is : (p : Party) → p ≡ partyAt own tariffHours freeDealHours tariffGain shares m i →
+      IsGrower (ticketIn n m own [] [] tariffGain [] [] jointGain) (settlementIn tariffHours freeDealHours pay) i p
   grower-is p e = party-is p m _ _ _ _ _ _ _ e (λ d l _. grower-had d l) grower-worth
 
 -- a square on its side
@@ -53,19 +53,19 @@ abbrev Turned : ℕ → ℕ → Grid → Grid → Type 0
 Turned n m q r = Filled (λ j i. at q i j) (min 16 m) (min 16 n) r
 
 -- a pilot of the rows of squares on their side
-module _ (n m : ℕ) (hn : n ≤ 16) (hm : m ≤ 16) (own : List ℕ) (tariffHours freeHours tariffPay pay : Grid) (byTariff byFree earned share : Grid)
-    (ft : Turned n m tariffHours byTariff) (ff : Turned n m freeHours byFree) (fe : Turned n m tariffPay earned) (fs : Turned n m pay share)
+module _ (n m : ℕ) (hn : n ≤ 16) (hm : m ≤ 16) (own : List ℕ) (tariffHours freeDealHours tariffPay pay : Grid) (byTariff byFree earned share : Grid)
+    (ft : Turned n m tariffHours byTariff) (ff : Turned n m freeDealHours byFree) (fe : Turned n m tariffPay earned) (fs : Turned n m pay share)
     (j : ℕ) (hj : j < m) where
   pilot-had : (e : Deal) (k : ℕ) → k < n → lines (getD byTariff j []) (getD byFree j []) e k ≡
-      settlementIn tariffHours freeHours pay .hours e k j
+      settlementIn tariffHours freeDealHours pay .hours e k j
   pilot-had Tariff k hk = ft .inner j k (omega arith) (omega arith)
   pilot-had Free k hk = ff .inner j k (omega arith) (omega arith)
 
   pilot-worth : (e : Deal) (k : ℕ) → k < n → lines (getD earned j []) (getD share j []) e k ≡
-      earnedByPilot (ticketIn n m [] own [] [] tariffPay [] []) (settlementIn tariffHours freeHours pay) e k j
+      earnedByPilot (ticketIn n m [] own [] [] tariffPay [] []) (settlementIn tariffHours freeDealHours pay) e k j
   pilot-worth Tariff k hk = fe .inner j k (omega arith) (omega arith)
   pilot-worth Free k hk = fs .inner j k (omega arith) (omega arith)
 
   pub pilot-is : (p : Party) → p ≡ partyAt own byTariff byFree earned share n j →
-      IsPilot (ticketIn n m [] own [] [] tariffPay [] []) (settlementIn tariffHours freeHours pay) j p
+      IsPilot (ticketIn n m [] own [] [] tariffPay [] []) (settlementIn tariffHours freeDealHours pay) j p
   pilot-is p e = party-is p n _ _ _ _ _ _ _ e pilot-had pilot-worth

@@ -51,7 +51,7 @@ pub record WrongMarkers : Type 0 where
   pub otherDeal : Caught otherDealForgotten ticketC (2 ∷ 1 ∷ 1 ∷ 1 ∷ 0 ∷ 0 ∷ []) 1 8
   -- "'At least' for 'greater': B with pay 3 would be blocked."
   pub atLeast : Caught atLeastForGreater ticketB (2 ∷ 1 ∷ 2 ∷ 0 ∷ 1 ∷ 3 ∷ 0 ∷ 0 ∷ 0 ∷ []) 8 1
-  -- "Taking cap 0 as unlimited": a free hour over A's free cap 0 would pass.
+  -- "Taking cap 0 as unlimited": a free-deal hour over A's free cap 0 would pass.
   pub capZero : Caught capZeroIsUnlimited ticketA (2 ∷ 1 ∷ 1 ∷ 1 ∷ 1 ∷ 0 ∷ []) 1 3
 
 right-rules : Meets (markedBy right)

@@ -77,9 +77,9 @@ spareIn p k d y = cheapestSpare (p .unused) 0 (lines (p .tariff) (p .free)) (lin
 
 -- what is found of the deal, whose parties are grower i, one of n, and pilot j, one of m
 abbrev pub dealFound : Deal → Party → Party → ℕ → ℕ → ℕ → ℕ → ℕ → ℕ → Found
-dealFound d g p n m i j cap joint =
+dealFound d g p n m i j cap jointGain =
     dealFault i j d (2 * (i * m + j) + dealNumber d + 1) (lines (g .tariff) (g .free) d j) cap (g .unused) (p .unused)
-    (spareIn g m d j) (spareIn p n d i) (getD (g .earned) j 0) (getD (p .earned) i 0) joint
+    (spareIn g m d j) (spareIn p n d i) (getD (g .earned) j 0) (getD (p .earned) i 0) jointGain
 
 -- The rows and squares that n growers and m pilots were made of, beside those that a walk over deals has itself.
 pub record Origin (n m : ℕ) (growers pilots : List Party) (tariffCap freeCap jointGain : Grid) : Type 0 where
@@ -88,14 +88,14 @@ pub record Origin (n m : ℕ) (growers pilots : List Party) (tariffCap freeCap j
   pub tariffGain : Grid
   pub tariffPay : Grid
   pub tariffHours : Grid
-  pub freeHours : Grid
+  pub freeDealHours : Grid
   pub pay : Grid
   pub grower : (i : ℕ) → i < n →
       IsGrower (ticketIn n m growerHours pilotHours tariffCap tariffGain tariffPay freeCap jointGain)
-      (settlementIn tariffHours freeHours pay) i (getD growers i nobody)
+      (settlementIn tariffHours freeDealHours pay) i (getD growers i nobody)
   pub pilot : (j : ℕ) → j < m →
       IsPilot (ticketIn n m growerHours pilotHours tariffCap tariffGain tariffPay freeCap jointGain)
-      (settlementIn tariffHours freeHours pay) j (getD pilots j nobody)
+      (settlementIn tariffHours freeDealHours pay) j (getD pilots j nobody)
 
 -- the ticket and the settlement of all of them
 module _ {n m : ℕ} {growers pilots : List Party} {tariffCap freeCap jointGain : Grid} (o : Origin n m growers pilots tariffCap freeCap jointGain) where
@@ -103,4 +103,4 @@ module _ {n m : ℕ} {growers pilots : List Party} {tariffCap freeCap jointGain 
   ticketFrom = ticketIn n m (o .growerHours) (o .pilotHours) tariffCap (o .tariffGain) (o .tariffPay) freeCap jointGain
 
   abbrev pub settlementFrom : Settlement
-  settlementFrom = settlementIn (o .tariffHours) (o .freeHours) (o .pay)
+  settlementFrom = settlementIn (o .tariffHours) (o .freeDealHours) (o .pay)

@@ -49,8 +49,8 @@ bothAtMost (Worth w) Nothing v = false
 bothAtMost (Worth w) (Worth u) v = leb (w + u) v
 
 abbrev atLeast : Deal → Spare → Spare → ℕ → ℕ → ℕ → Bool
-atLeast Tariff ofGrower ofPilot gain pay joint = below ofGrower gain && below ofPilot pay
-atLeast Free ofGrower ofPilot gain pay joint = bothAtMost ofGrower ofPilot joint
+atLeast Tariff ofGrower ofPilot gain pay jointGain = below ofGrower gain && below ofPilot pay
+atLeast Free ofGrower ofPilot gain pay jointGain = bothAtMost ofGrower ofPilot jointGain
 
 abbrev pub atLeastForGreater : Rules
 atLeastForGreater = record { tooMany = ltb; spares = besides; outweigh = atLeast }

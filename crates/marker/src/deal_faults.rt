@@ -68,10 +68,10 @@ fn deal_fault(
     j: usize,
     tariff_cap: u16,
     free_cap: u16,
-    joint: u16,
+    joint_gain: u16,
 ) -> Found
     requires { ⌜ (n ≤ 16) × (m ≤ 16) × (i < 16) × (j < 16) ⌝ }
-    ensures { λ r. ⌜ r ≡ dealFound deal grower pilot n m i j (byDeal «tariff_cap» «free_cap» deal) joint ⌝ }
+    ensures { λ r. ⌜ r ≡ dealFound deal grower pilot n m i j (byDeal «tariff_cap» «free_cap» deal) «joint_gain» ⌝ }
 {
     let hours = hours_with(grower, deal, j);
     let cap = of_deal(deal, tariff_cap, free_cap);
@@ -92,7 +92,7 @@ fn deal_fault(
         spare(pilot, n, deal, i),
         grower.earned[j],
         pilot.earned[i],
-        joint,
+        joint_gain,
     )
 }
 

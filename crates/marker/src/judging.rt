@@ -53,12 +53,12 @@ fn judge_squares(
     free_cap: [[u16; 16]; 16],
     joint_gain: [[u16; 16]; 16],
     tariff_hours: [[u16; 16]; 16],
-    free_hours: [[u16; 16]; 16],
+    free_deal_hours: [[u16; 16]; 16],
     pay: [[u16; 16]; 16],
 ) -> Verdict
     requires { ⌜ (n ≤ 16) × (m ≤ 16) ⌝ }
     ensures { λ r. ⌜ r ≡ judged (ticketIn n m «grower_hours» «pilot_hours» «tariff_cap» «tariff_gain» «tariff_pay» «free_cap» «joint_gain»)
-        (settlementIn «tariff_hours» «free_hours» pay) ⌝ }
+        (settlementIn «tariff_hours» «free_deal_hours» pay) ⌝ }
 {
     let found = first_pair_fault(
         n,
@@ -67,7 +67,7 @@ fn judge_squares(
         free_cap,
         joint_gain,
         tariff_hours,
-        free_hours,
+        free_deal_hours,
         pay,
     );
     if let Found::Fault { verdict } = found {
@@ -78,12 +78,20 @@ fn judge_squares(
         m,
         grower_hours,
         tariff_hours,
-        free_hours,
+        free_deal_hours,
         tariff_gain,
         joint_gain,
         pay,
     );
-    let pilots = all_pilots(n, m, pilot_hours, tariff_hours, free_hours, tariff_pay, pay);
+    let pilots = all_pilots(
+        n,
+        m,
+        pilot_hours,
+        tariff_hours,
+        free_deal_hours,
+        tariff_pay,
+        pay,
+    );
     judge_parties(n, m, growers, pilots, tariff_cap, free_cap, joint_gain)
 }
 
@@ -104,7 +112,7 @@ pub(crate) fn judge(ticket: &[u16], settlement: &[u16]) -> Verdict
         square(ticket, Quantity::FreeCap),
         square(ticket, Quantity::JointGain),
         square(settlement, Quantity::TariffHours),
-        square(settlement, Quantity::FreeHours),
+        square(settlement, Quantity::FreeDealHours),
         square(settlement, Quantity::Pay),
     )
 }

@@ -16,13 +16,13 @@ pub(crate) fn first_pair_fault(
     free_cap: [[u16; 16]; 16],
     joint_gain: [[u16; 16]; 16],
     tariff_hours: [[u16; 16]; 16],
-    free_hours: [[u16; 16]; 16],
+    free_deal_hours: [[u16; 16]; 16],
     pay: [[u16; 16]; 16],
 ) -> Found
     requires { ⌜ (n ≤ 16) × (m ≤ 16) ⌝ }
     ensures { λ r. ⌜ r ≡ firstFound
-        (pairFaultAt (ticketIn n m [] [] «tariff_cap» [] [] «free_cap» «joint_gain») (settlementIn «tariff_hours» «free_hours» pay)) (n * m)
-        (byPair (pairVerdict (ticketIn n m [] [] «tariff_cap» [] [] «free_cap» «joint_gain») (settlementIn «tariff_hours» «free_hours» pay)) m) ⌝ }
+        (pairFaultAt (ticketIn n m [] [] «tariff_cap» [] [] «free_cap» «joint_gain») (settlementIn «tariff_hours» «free_deal_hours» pay)) (n * m)
+        (byPair (pairVerdict (ticketIn n m [] [] «tariff_cap» [] [] «free_cap» «joint_gain») (settlementIn «tariff_hours» «free_deal_hours» pay)) m) ⌝ }
 {
     for i in 0..n {
         for j in 0..m {
@@ -31,7 +31,7 @@ pub(crate) fn first_pair_fault(
                 j,
                 tariff_hours[i][j],
                 tariff_cap[i][j],
-                free_hours[i][j],
+                free_deal_hours[i][j],
                 free_cap[i][j],
                 pay[i][j],
                 joint_gain[i][j],

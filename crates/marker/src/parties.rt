@@ -83,19 +83,19 @@ fn parties(
     partners: usize,
     hours: [u16; 16],
     tariff_hours: [[u16; 16]; 16],
-    free_hours: [[u16; 16]; 16],
+    free_deal_hours: [[u16; 16]; 16],
     earned: [[u16; 16]; 16],
     share: [[u16; 16]; 16],
 ) -> [Party; 16]
     requires { ⌜ (count ≤ 16) × (partners ≤ 16) ⌝ }
-    ensures { λ r. ⌜ ((p : ℕ) → p < count → getD r p nobody ≡ partyAt hours «tariff_hours» «free_hours» earned share partners p) ⌝ }
+    ensures { λ r. ⌜ ((p : ℕ) → p < count → getD r p nobody ≡ partyAt hours «tariff_hours» «free_deal_hours» earned share partners p) ⌝ }
 {
     let mut all = no_parties();
     for p in 0..count {
         all[p] = party(
             hours[p],
             tariff_hours[p],
-            free_hours[p],
+            free_deal_hours[p],
             earned[p],
             share[p],
             partners,
@@ -128,17 +128,25 @@ pub(crate) fn all_growers(
     m: usize,
     hours: [u16; 16],
     tariff_hours: [[u16; 16]; 16],
-    free_hours: [[u16; 16]; 16],
+    free_deal_hours: [[u16; 16]; 16],
     tariff_gain: [[u16; 16]; 16],
     joint_gain: [[u16; 16]; 16],
     pay: [[u16; 16]; 16],
 ) -> [Party; 16]
     requires { ⌜ (n ≤ 16) × (m ≤ 16) ⌝ }
     ensures { λ r. ⌜ ((i : ℕ) → i < n → IsGrower (ticketIn n m hours [] [] «tariff_gain» [] [] «joint_gain»)
-        (settlementIn «tariff_hours» «free_hours» pay) i (getD r i nobody)) ⌝ }
+        (settlementIn «tariff_hours» «free_deal_hours» pay) i (getD r i nobody)) ⌝ }
 {
     let shares = grower_shares(n, m, joint_gain, pay);
-    parties(n, m, hours, tariff_hours, free_hours, tariff_gain, shares)
+    parties(
+        n,
+        m,
+        hours,
+        tariff_hours,
+        free_deal_hours,
+        tariff_gain,
+        shares,
+    )
 }
 
 pub(crate) fn all_pilots(
@@ -146,16 +154,16 @@ pub(crate) fn all_pilots(
     m: usize,
     hours: [u16; 16],
     tariff_hours: [[u16; 16]; 16],
-    free_hours: [[u16; 16]; 16],
+    free_deal_hours: [[u16; 16]; 16],
     tariff_pay: [[u16; 16]; 16],
     pay: [[u16; 16]; 16],
 ) -> [Party; 16]
     requires { ⌜ (n ≤ 16) × (m ≤ 16) ⌝ }
     ensures { λ r. ⌜ ((j : ℕ) → j < m → IsPilot (ticketIn n m [] hours [] [] «tariff_pay» [] [])
-        (settlementIn «tariff_hours» «free_hours» pay) j (getD r j nobody)) ⌝ }
+        (settlementIn «tariff_hours» «free_deal_hours» pay) j (getD r j nobody)) ⌝ }
 {
     let by_tariff = turned(tariff_hours, n, m);
-    let by_free = turned(free_hours, n, m);
+    let by_free = turned(free_deal_hours, n, m);
     let earned = turned(tariff_pay, n, m);
     let share = turned(pay, n, m);
     parties(m, n, hours, by_tariff, by_free, earned, share)

@@ -35,7 +35,7 @@ ticketC = ticket 1 1 1 1 5 5 1 (λ j. 12)
 abbrev pub ticketD : Ticket
 ticketD = ticket 1 1 2 0 0 0 2 (λ j. 10)
 
--- tariff hours, free hours and pay, the same with each pilot, or only with pilot l
+-- tariff hours, free-deal hours and pay, the same with each pilot, or only with pilot l
 abbrev both : (ℕ → ℕ) → (ℕ → ℕ) → Deal → ℕ → ℕ → ℕ
 both tariff free Tariff i j = tariff j
 both tariff free Free i j = free j

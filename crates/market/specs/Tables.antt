@@ -31,7 +31,7 @@ ticketIn growers pilots growerHours pilotHours tariffCap tariffGain tariffPay fr
 
 -- the settlement of three squares
 abbrev pub settlementIn : Grid → Grid → Grid → Settlement
-settlementIn tariffHours freeHours pay = record {
-  hours = byDeal (at tariffHours) (at freeHours);
+settlementIn tariffHours freeDealHours pay = record {
+  hours = byDeal (at tariffHours) (at freeDealHours);
   pay = at pay;
 }

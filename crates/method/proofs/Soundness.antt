@@ -37,22 +37,22 @@ module _ (n m : ℕ) (growerHours pilotHours : List ℕ) (tariffCap tariffGain t
     pilotStandby = λ j hj. refl;
   }
 
-  module _ {prices : List ℕ} {held : List (List Agreed)} {shift : ℕ} {tariffBefore freeBefore tariffHours freeHours pay : Grid} where
+  module _ {prices : List ℕ} {held : List (List Agreed)} {shift : ℕ} {tariffBefore freeBefore tariffHours freeDealHours pay : Grid} where
     pub flown-sound : Ended (ticket n m growerHours pilotHours terms) prices held → GoodShift (ticket 0 m [] [] []) (line prices) shift →
-        Flown held prices shift n m tariffBefore freeBefore tariffHours freeHours pay →
-        Sound (ticketIn n m growerHours pilotHours tariffCap tariffGain tariffPay freeCap jointGain) (settlementIn tariffHours freeHours pay)
+        Flown held prices shift n m tariffBefore freeBefore tariffHours freeDealHours pay →
+        Sound (ticketIn n m growerHours pilotHours tariffCap tariffGain tariffPay freeCap jointGain) (settlementIn tariffHours freeDealHours pay)
     flown-sound end g f =
         sound-same terms-same (record { hours = hours; pay = f .payIn .inner })
         (sound (end .live .inv) (record { small = g .small; apart = g .apart }) (end .done))
       where
-        hours : (d : Deal) (i j : ℕ) → i < n → j < m → settlementIn tariffHours freeHours pay .hours d i j ≡ hoursOf (heldIn held) d i j
+        hours : (d : Deal) (i j : ℕ) → i < n → j < m → settlementIn tariffHours freeDealHours pay .hours d i j ≡ hoursOf (heldIn held) d i j
         hours Tariff = f .tariffHoursIn .inner
-        hours Free = f .freeHoursIn .inner
+        hours Free = f .freeDealHoursIn .inner
 
-pub flown-beyond : {n m : ℕ} {prices : List ℕ} {held : List (List Agreed)} {shift : ℕ} {tariffBefore freeBefore tariffHours freeHours pay : Grid} →
-    Flown held prices shift n m tariffBefore freeBefore tariffHours freeHours pay → Beyond n m tariffBefore freeBefore tariffHours freeHours pay
+pub flown-beyond : {n m : ℕ} {prices : List ℕ} {held : List (List Agreed)} {shift : ℕ} {tariffBefore freeBefore tariffHours freeDealHours pay : Grid} →
+    Flown held prices shift n m tariffBefore freeBefore tariffHours freeDealHours pay → Beyond n m tariffBefore freeBefore tariffHours freeDealHours pay
 flown-beyond f = record {
   tariffHoursKept = f .tariffHoursIn .outer;
-  freeHoursKept = f .freeHoursIn .outer;
+  freeDealHoursKept = f .freeDealHoursIn .outer;
   noPay = f .payIn .outer;
 }

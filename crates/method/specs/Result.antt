@@ -23,13 +23,13 @@ abbrev pub paysOf : List (List Agreed) → List ℕ → ℕ → ℕ → ℕ → 
 paysOf held prices shift i j = payAt (line prices j) shift (hoursOf (heldIn held) Free i j)
 
 -- what n growers and m pilots fly that hold these hours, in squares that held something before
-pub record Flown (held : List (List Agreed)) (prices : List ℕ) (shift n m : ℕ) (tariffBefore freeBefore tariffHours freeHours pay : Grid) : Type 0 where
+pub record Flown (held : List (List Agreed)) (prices : List ℕ) (shift n m : ℕ) (tariffBefore freeBefore tariffHours freeDealHours pay : Grid) : Type 0 where
   pub tariffHoursIn : FilledOver tariffBefore (hoursOf (heldIn held) Tariff) n m tariffHours
-  pub freeHoursIn : FilledOver freeBefore (hoursOf (heldIn held) Free) n m freeHours
+  pub freeDealHoursIn : FilledOver freeBefore (hoursOf (heldIn held) Free) n m freeDealHours
   pub payIn : Filled (paysOf held prices shift) n m pay
 
 -- beyond n growers and m pilots the squares of hours stand as they stood, and there is no pay
-pub record Beyond (n m : ℕ) (tariffBefore freeBefore tariffHours freeHours pay : Grid) : Type 0 where
+pub record Beyond (n m : ℕ) (tariffBefore freeBefore tariffHours freeDealHours pay : Grid) : Type 0 where
   pub tariffHoursKept : (i j : ℕ) → (n ≤ i) ⊎ (m ≤ j) → at tariffHours i j ≡ at tariffBefore i j
-  pub freeHoursKept : (i j : ℕ) → (n ≤ i) ⊎ (m ≤ j) → at freeHours i j ≡ at freeBefore i j
+  pub freeDealHoursKept : (i j : ℕ) → (n ≤ i) ⊎ (m ≤ j) → at freeDealHours i j ≡ at freeBefore i j
   pub noPay : (i j : ℕ) → (n ≤ i) ⊎ (m ≤ j) → at pay i j ≡ 0

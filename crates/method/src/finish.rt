@@ -56,22 +56,22 @@ pub(crate) fn write_flown(
     price: [u32; 16],
     shift: u32,
     tariff_hours: &mut [[u16; 16]; 16],
-    free_hours: &mut [[u16; 16]; 16],
+    free_deal_hours: &mut [[u16; 16]; 16],
 ) -> [[u16; 16]; 16]
     requires { ⌜ (growers ≤ 16) × (pilots ≤ 16) × (shift ≤ 16) × ((j : ℕ) → j < pilots → line price j ≤ topPrice) ⌝ }
     requires { ⌜ ((d : Deal) (i j : ℕ) → i < growers → j < pilots → hoursOf (heldIn held) d i j < 65536) ⌝ }
-    ensures { λ r. ⌜ Flown held price shift growers pilots (now («tariff_hours» .entry)) (now («free_hours» .entry))
-        (now («tariff_hours» .exit)) (now («free_hours» .exit)) r ⌝ }
+    ensures { λ r. ⌜ Flown held price shift growers pilots (now («tariff_hours» .entry)) (now («free_deal_hours» .entry))
+        (now («tariff_hours» .exit)) (now («free_deal_hours» .exit)) r ⌝ }
 {
     let _by_tariff = grid::copied(&*tariff_hours);
-    let _free = grid::copied(&*free_hours);
+    let _free = grid::copied(&*free_deal_hours);
     let mut pay = grid::zeros();
     for i in 0..growers {
         for j in 0..pilots {
             let agreed = held[i][j];
             let free = agreed.old_free + agreed.new_free;
             tariff_hours[i][j] = agreed.by_tariff;
-            free_hours[i][j] = free;
+            free_deal_hours[i][j] = free;
             pay[i][j] = pay_for(free, price[j], shift);
         }
     }

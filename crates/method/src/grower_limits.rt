@@ -11,7 +11,7 @@ use offers::Terms;
 use offers::grower_slack;
 use offers::worth_here;
 
-// The least that a free hour of a grower with a marked pilot is worth to him.
+// The least that a free-deal hour of a grower with a marked pilot is worth to him.
 pub(crate) fn least_worth(
     terms: [Terms; 16],
     agreed: [Agreed; 16],
@@ -29,7 +29,7 @@ pub(crate) fn least_worth(
 }
 
 // At most `bound`, and by how much the prices of the marked pilots may rise before a tariff hour with the grower pays too little, or a
-// free hour is worth less to him than another deal.
+// free-deal hour is worth less to him than another deal.
 pub(crate) fn row_slack(
     terms: [Terms; 16],
     agreed: [Agreed; 16],

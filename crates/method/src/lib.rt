@@ -34,8 +34,8 @@ pub(crate) enum Request {
 }
 
 // A sound settlement of the market of the first growers and pilots, at most 16 of each, whatever their hours, caps and amounts: writes
-// the hours of tariff deals and of free deals, and returns the pay per free hour. Beyond those growers and pilots the hours that were lent
-// stay as they are, and there is no pay.
+// the hours of tariff deals and of free deals, and returns the pay per free-deal hour. Beyond those growers and pilots the hours that were
+// lent stay as they are, and there is no pay.
 pub fn settle_squares(
     growers: usize,
     pilots: usize,
@@ -47,13 +47,13 @@ pub fn settle_squares(
     free_cap: [[u16; 16]; 16],
     joint_gain: [[u16; 16]; 16],
     tariff_hours: &mut [[u16; 16]; 16],
-    free_hours: &mut [[u16; 16]; 16],
+    free_deal_hours: &mut [[u16; 16]; 16],
 ) -> [[u16; 16]; 16]
     ensures { λ r. ⌜ Sound
         (ticketIn (min 16 growers) (min 16 pilots) «grower_hours» «pilot_hours» «tariff_cap» «tariff_gain» «tariff_pay» «free_cap» «joint_gain»)
-        (settlementIn (now («tariff_hours» .exit)) (now («free_hours» .exit)) r) ⌝ }
-    ensures { λ r. ⌜ Beyond (min 16 growers) (min 16 pilots) (now («tariff_hours» .entry)) (now («free_hours» .entry))
-        (now («tariff_hours» .exit)) (now («free_hours» .exit)) r ⌝ }
+        (settlementIn (now («tariff_hours» .exit)) (now («free_deal_hours» .exit)) r) ⌝ }
+    ensures { λ r. ⌜ Beyond (min 16 growers) (min 16 pilots) (now («tariff_hours» .entry)) (now («free_deal_hours» .entry))
+        (now («tariff_hours» .exit)) (now («free_deal_hours» .exit)) r ⌝ }
 {
     let n = numbers::within(growers);
     let m = numbers::within(pilots);
@@ -69,5 +69,5 @@ pub fn settle_squares(
     let mut price = finish::zero_prices();
     let held = turns::run(n, m, grower_hours, pilot_hours, terms, &mut price);
     let shift = euros::rounding(m, price);
-    finish::write_flown(n, m, held, price, shift, tariff_hours, free_hours)
+    finish::write_flown(n, m, held, price, shift, tariff_hours, free_deal_hours)
 }

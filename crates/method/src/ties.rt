@@ -6,7 +6,7 @@ use offers::Agreed;
 use offers::Terms;
 use offers::free_chance;
 
-// The marked pilots, and every pilot whose free deal offers the grower as much as his least free hour with a marked one, or one less.
+// The marked pilots, and every pilot whose free deal offers the grower as much as his least free-deal hour with a marked one, or one less.
 pub(crate) fn tie_in(
     terms: [Terms; 16],
     agreed: [Agreed; 16],

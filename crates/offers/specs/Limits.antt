@@ -17,7 +17,7 @@ topPrice = 1179631
 abbrev pub many : ℕ
 many = 2000000
 
--- the least that a free hour with a marked pilot is worth to its grower, and 1; an old hour, which pays one eighteenth less, one more
+-- the least that a free-deal hour with a marked pilot is worth to its grower, and 1; an old hour, which pays one eighteenth less, one more
 abbrev pub worthHere : Bool → Terms → Agreed → ℕ → ℕ
 worthHere marked terms agreed price =
     pick marked

@@ -49,8 +49,8 @@ pub enum LateHours {
     Hours(Deal, u16),
 }
 
-// How far a grower bears a rise of the marked pilots' prices, so far: what his tariff hours with them bear, the least that a free hour with
-// them is worth to him, and the most that his other open deals offer.
+// How far a grower bears a rise of the marked pilots' prices, so far: what his tariff hours with them bear, the least that a free-deal
+// hour with them is worth to him, and the most that his other open deals offer.
 pub struct Slack {
     pub paid: u32,
     pub low: u32,

@@ -1,5 +1,5 @@
-// How far a rise of the marked pilots' prices is borne. No free hour with a marked pilot may become worth less than another open deal, no
-// tariff hour of his may pay too little, and he has no free hour.
+// How far a rise of the marked pilots' prices is borne. No free-deal hour with a marked pilot may become worth less than another open
+// deal, no tariff hour of his may pay too little, and he has no free hour.
 ghost use mathlib.Core.Path.{_≡_};
 ghost use Rattle.offers.specs.Limits.{worthHere, tariffSlack, outsideOf, growerSlack, pilotSlack};
 use crate::Agreed;
@@ -14,7 +14,7 @@ use crate::chances::tariff_chance;
 use numbers::less_wide;
 use numbers::wide;
 
-// The least that a free hour with one pilot is worth to its grower, if the pilot is marked and there is one.
+// The least that a free-deal hour with one pilot is worth to its grower, if the pilot is marked and there is one.
 pub fn worth_here(marked: bool, terms: Terms, agreed: Agreed, price: u32) -> u32
     ensures { λ r. ⌜ r ≡ worthHere marked terms agreed price ⌝ }
 {

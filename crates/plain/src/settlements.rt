@@ -23,7 +23,7 @@ fn narrow(x: usize) -> u8 {
     (x % 256) as u8
 }
 
-// The limit of the number at a place: the tariff cap for tariff hours, the free cap for free hours, c for pay.
+// The limit of the number at a place: the tariff cap for tariff hours, the free cap for free-deal hours, c for pay.
 pub fn limit(ticket: &[u8], place: usize) -> u8 {
     if place < 3 {
         return 0;

@@ -1,4 +1,4 @@
--- The settlement of a ticket with n growers and m pilots: kind, n, m, and then for each pair tariff hours, free hours and pay.
+-- The settlement of a ticket with n growers and m pilots: kind, n, m, and then for each pair tariff hours, free-deal hours and pay.
 use Prim.Native.Nat.{ℕ, zero, suc, _*_}
 use Rattle.reader.specs.declared.layout.State.{State}
 use Rattle.reader.specs.State.{moved}

@@ -38,12 +38,12 @@ module _ (l : List ℕ) (p x y z : ℕ) (room : p + 2 < length l) where
     after = λ q h. three-beside q (λ e. omega arith, λ e. omega arith, λ e. omega arith);
   }
 
-module _ (n m : ℕ) (tariffHours freeHours pay : Grid) where
+module _ (n m : ℕ) (tariffHours freeDealHours pay : Grid) where
   -- the head and the numbers of the first c pairs stand in the list; pair p is grower p / m and pilot p % m
   pub record ListedTo (c : ℕ) (l : List ℕ) : Type 0 where
     pub long : length l ≡ 771
     pub head : (k : ℕ) → k < 3 → getD l k 0 ≡ nth 2 n m k
-    pub pairs : (k p : ℕ) → k < 3 → p < c → getD l (3 + 3 * p + k) 0 ≡ numberOf tariffHours freeHours pay k (p / m) (p % m)
+    pub pairs : (k p : ℕ) → k < 3 → p < c → getD l (3 + 3 * p + k) 0 ≡ numberOf tariffHours freeDealHours pay k (p / m) (p % m)
 
   pub listed-start : (l l′ : List ℕ) (g p : ℕ) → length l ≡ 771 → g ≡ n → p ≡ m → Written l l′ 0 2 g p → ListedTo 0 l′
   listed-start l l′ g p len eg ep w = record {
@@ -52,18 +52,18 @@ module _ (n m : ℕ) (tariffHours freeHours pay : Grid) where
     pairs = λ k q hk h. absurd (omega arith);
   }
 
-  pub listed-more : (c : ℕ) (l l′ : List ℕ) (x y z : ℕ) → ((k : ℕ) → nth x y z k ≡ numberOf tariffHours freeHours pay k (c / m) (c % m)) →
+  pub listed-more : (c : ℕ) (l l′ : List ℕ) (x y z : ℕ) → ((k : ℕ) → nth x y z k ≡ numberOf tariffHours freeDealHours pay k (c / m) (c % m)) →
       Written l l′ (3 + 3 * c) x y z → ListedTo c l → ListedTo (c + 1) l′
   listed-more c l l′ x y z e w s = record {
     long = w .long ∙ s .long;
     head = λ k h. w .before k (omega arith) ∙ s .head k h;
     pairs = λ k. by-index
-        (λ p. k < 3 → p < c + 1 → getD l′ (3 + 3 * p + k) 0 ≡ numberOf tariffHours freeHours pay k (p / m) (p % m)) c
+        (λ p. k < 3 → p < c + 1 → getD l′ (3 + 3 * p + k) 0 ≡ numberOf tariffHours freeDealHours pay k (p / m) (p % m)) c
         (λ hk _. w .there k hk ∙ e k)
         (λ p ne hk h. w .before (3 + 3 * p + k) (omega arith) ∙ s .pairs k p hk (omega arith));
   }
 
-  pub listed-end : (c : ℕ) (l : List ℕ) → n * m ≤ c → ListedTo c l → Listed n m tariffHours freeHours pay l
+  pub listed-end : (c : ℕ) (l : List ℕ) → n * m ≤ c → ListedTo c l → Listed n m tariffHours freeDealHours pay l
   listed-end c l h s = record {
     head = s .head;
     pairs = λ k i j hk hi hj.

@@ -27,10 +27,10 @@ use Rattle.settler.specs.Listing.{nth, numberOf, Listed}
 use Rattle.settler.specs.Numbers.{IsTicket, settlementFront, SoundFront}
 use Rattle.settler.proofs.TicketLimits.{limits}
 
-module _ {n m : ℕ} {tariffHours freeHours pay : Grid} {list : List ℕ} (l : Listed n m tariffHours freeHours pay list)
+module _ {n m : ℕ} {tariffHours freeDealHours pay : Grid} {list : List ℕ} (l : Listed n m tariffHours freeDealHours pay list)
     (long : length list ≡ 771) (hn : n ≤ 16) (hm : m ≤ 16) where
   abbrev number : ℕ → ℕ → ℕ → ℕ
-  number = numberOf tariffHours freeHours pay
+  number = numberOf tariffHours freeDealHours pay
 
   -- the settlement's own numbers are the front of the list
   abbrev own : List ℕ
@@ -59,14 +59,14 @@ module _ {n m : ℕ} {tariffHours freeHours pay : Grid} {list : List ℕ} (l : L
       ∙ own-number (pairPlace 3 3 k m i j) (omega (arith, pair-below n m i j hi hj))
       ∙ l .pairs k i j hk hi hj
 
-  own-same : (t : Ticket) → t .growers ≡ n → t .pilots ≡ m → SameSettlement t (settlementIn tariffHours freeHours pay) (settlementOf own)
+  own-same : (t : Ticket) → t .growers ≡ n → t .pilots ≡ m → SameSettlement t (settlementIn tariffHours freeDealHours pay) (settlementOf own)
   own-same t en em = record {
     hours = hours;
     pay = λ i j hi hj. of-pair i j 2 (omega (arith, en)) (omega (arith, em)) (omega arith);
   }
     where
       hours : (d : Deal) (i j : ℕ) → i < t .growers → j < t .pilots →
-          settlementOf own .hours d i j ≡ settlementIn tariffHours freeHours pay .hours d i j
+          settlementOf own .hours d i j ≡ settlementIn tariffHours freeDealHours pay .hours d i j
       hours Tariff i j hi hj = of-pair i j 0 (omega (arith, en)) (omega (arith, em)) (omega arith)
       hours Free i j hi hj = of-pair i j 1 (omega (arith, en)) (omega (arith, em)) (omega arith)
 
@@ -106,17 +106,17 @@ module _ {n m : ℕ} {tariffHours freeHours pay : Grid} {list : List ℕ} (l : L
         ))
 
 -- A sound settlement of the ticket that a list means, written into a list: the front of that list is sound.
-pub sound-front : (xs : List ℕ) → IsTicket xs → (t : Ticket) → SameTicket t (ticketOf xs) → (tariffHours freeHours pay : Grid) →
-    Sound t (settlementIn tariffHours freeHours pay) → (list : List ℕ) → length list ≡ 771 → (n m : ℕ) → n ≡ growersOf xs → m ≡ pilotsOf xs →
-    Listed n m tariffHours freeHours pay list → SoundFront xs list
-sound-front xs is t same tariffHours freeHours pay s list long n m en em listed = record {
+pub sound-front : (xs : List ℕ) → IsTicket xs → (t : Ticket) → SameTicket t (ticketOf xs) → (tariffHours freeDealHours pay : Grid) →
+    Sound t (settlementIn tariffHours freeDealHours pay) → (list : List ℕ) → length list ≡ 771 → (n m : ℕ) → n ≡ growersOf xs → m ≡ pilotsOf xs →
+    Listed n m tariffHours freeDealHours pay list → SoundFront xs list
+sound-front xs is t same tariffHours freeDealHours pay s list long n m en em listed = record {
   good = record { sound = sound; nobodyGains = nothing-blocks-iff (ticketOf xs) _ .0 (sound .nothingBlocks) };
   bytes = pack (settlementFront xs list);
   packs = settlement-accepted (growersOf xs) (pilotsOf xs) (settlementFront xs list) (own-shape l long hn hm small) .0;
   short = own-short l long hn hm small few;
 }
   where
-    l : Listed (growersOf xs) (pilotsOf xs) tariffHours freeHours pay list
+    l : Listed (growersOf xs) (pilotsOf xs) tariffHours freeDealHours pay list
     l = rw (en, em) at listed
 
     hn : growersOf xs ≤ 16
@@ -126,15 +126,15 @@ sound-front xs is t same tariffHours freeHours pay s list long n m en em listed 
     hm = limits is .pilots
 
     -- the squares are sound for the list's ticket itself
-    here : Sound (ticketOf xs) (settlementIn tariffHours freeHours pay)
+    here : Sound (ticketOf xs) (settlementIn tariffHours freeDealHours pay)
     here = sound-same same (record { hours = λ d i j hi hj. refl; pay = λ i j hi hj. refl }) s
 
-    few : (k i j : ℕ) → k < 2 → i < growersOf xs → j < pilotsOf xs → numberOf tariffHours freeHours pay k i j < 128
+    few : (k i j : ℕ) → k < 2 → i < growersOf xs → j < pilotsOf xs → numberOf tariffHours freeDealHours pay k i j < 128
     few zero i j hk hi hj = omega (arith, here .feasible .fits .deal Tariff i j hi hj, limits is .tariffCap i j hi hj)
     few (suc zero) i j hk hi hj = omega (arith, here .feasible .fits .deal Free i j hi hj, limits is .freeCap i j hi hj)
     few (suc (suc k)) i j hk hi hj = absurd (omega arith)
 
-    small : (k i j : ℕ) → i < growersOf xs → j < pilotsOf xs → numberOf tariffHours freeHours pay k i j < 16384
+    small : (k i j : ℕ) → i < growersOf xs → j < pilotsOf xs → numberOf tariffHours freeDealHours pay k i j < 16384
     small zero i j hi hj = omega (arith, few 0 i j (omega arith) hi hj)
     small (suc zero) i j hi hj = omega (arith, few 1 i j (omega arith) hi hj)
     small (suc (suc k)) i j hi hj = omega (arith, here .feasible .payInGain i j hi hj, limits is .jointGain i j hi hj)

@@ -19,11 +19,11 @@ pub record Written (l l′ : List ℕ) (place x y z : ℕ) : Type 0 where
   pub before : (p : ℕ) → p < place → getD l′ p 0 ≡ getD l p 0
   pub after : (p : ℕ) → place + 2 < p → getD l′ p 0 ≡ getD l p 0
 
--- the tariff hours, the free hours or the pay of a pair
+-- the tariff hours, the free-deal hours or the pay of a pair
 abbrev pub numberOf : Grid → Grid → Grid → ℕ → ℕ → ℕ → ℕ
-numberOf tariffHours freeHours pay k i j = nth (at tariffHours i j) (at freeHours i j) (at pay i j) k
+numberOf tariffHours freeDealHours pay k i j = nth (at tariffHours i j) (at freeDealHours i j) (at pay i j) k
 
--- kind 2, growers and pilots; then, for every pair in the ticket's order, tariff hours, free hours and pay
-pub record Listed (n m : ℕ) (tariffHours freeHours pay : Grid) (l : List ℕ) : Type 0 where
+-- kind 2, growers and pilots; then, for every pair in the ticket's order, tariff hours, free-deal hours and pay
+pub record Listed (n m : ℕ) (tariffHours freeDealHours pay : Grid) (l : List ℕ) : Type 0 where
   pub head : (k : ℕ) → k < 3 → getD l k 0 ≡ nth 2 n m k
-  pub pairs : (k i j : ℕ) → k < 3 → i < n → j < m → getD l (3 + 3 * (i * m + j) + k) 0 ≡ numberOf tariffHours freeHours pay k i j
+  pub pairs : (k i j : ℕ) → k < 3 → i < n → j < m → getD l (3 + 3 * (i * m + j) + k) 0 ≡ numberOf tariffHours freeDealHours pay k i j

@@ -30,7 +30,7 @@ fn list_sound(ticket: &[u16], list: &mut [u16; 771])
     let mut joint_gain = grid::zeros();
     tables::fill(ticket, Quantity::JointGain, &mut joint_gain);
     let mut tariff_hours = grid::zeros();
-    let mut free_hours = grid::zeros();
+    let mut free_deal_hours = grid::zeros();
     let pay = method::settle_squares(
         growers,
         pilots,
@@ -42,9 +42,9 @@ fn list_sound(ticket: &[u16], list: &mut [u16; 771])
         free_cap,
         joint_gain,
         &mut tariff_hours,
-        &mut free_hours,
+        &mut free_deal_hours,
     );
-    list_settlement(list, growers, pilots, &tariff_hours, &free_hours, pay);
+    list_settlement(list, growers, pilots, &tariff_hours, &free_deal_hours, pay);
 }
 
 // Settles a ticket's numbers into a lent buffer, which must have room for the longest settlement that the ticket could have.

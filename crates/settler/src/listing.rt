@@ -25,17 +25,17 @@ fn write_three(list: &mut [u16; 771], place: usize, x: u16, y: u16, z: u16)
     list[place + 2] = z;
 }
 
-// Lists kind, growers and pilots, then for every pair its tariff hours, its free hours and the pay per free hour.
+// Lists kind, growers and pilots, then for every pair its tariff hours, its free-deal hours and the pay per free-deal hour.
 pub(crate) fn list_settlement(
     list: &mut [u16; 771],
     growers: usize,
     pilots: usize,
     tariff_hours: &[[u16; 16]; 16],
-    free_hours: &[[u16; 16]; 16],
+    free_deal_hours: &[[u16; 16]; 16],
     pay: [[u16; 16]; 16],
 )
     requires { ⌜ (length (now list) ≡ 771) × (growers ≤ 16) × (pilots ≤ 16) ⌝ }
-    ensures { λ _. ⌜ (length (now (list .exit)) ≡ 771) × Listed growers pilots (now («tariff_hours» .entry)) (now («free_hours» .entry)) pay (now (list .exit)) ⌝ }
+    ensures { λ _. ⌜ (length (now (list .exit)) ≡ 771) × Listed growers pilots (now («tariff_hours» .entry)) (now («free_deal_hours» .entry)) pay (now (list .exit)) ⌝ }
 {
     write_three(&mut *list, 0, SETTLEMENT, count(growers), count(pilots));
     let pairs = growers * pilots;
@@ -43,7 +43,7 @@ pub(crate) fn list_settlement(
         let i = k / pilots;
         let j = k % pilots;
         let by_tariff = tariff_hours[i][j];
-        let in_free_deal = free_hours[i][j];
+        let in_free_deal = free_deal_hours[i][j];
         let paid = pay[i][j];
         write_three(&mut *list, 3 + 3 * k, by_tariff, in_free_deal, paid);
     }

@@ -69,15 +69,15 @@ pub pair-room : (f : ℕ → ℕ → List ℕ) (m k : ℕ) (room : ℕ) {l l₁ 
 pair-room f m k room h l r w = omega (arith, pairs-short f m k h, w .ends)
 
 -- A turn, where the quantities stand in squares.
-module _ (tariffHours tariffGain tariffPay freeHours jointGain pay : Grid) where
+module _ (tariffHours tariffGain tariffPay freeDealHours jointGain pay : Grid) where
   abbrev numbersOf : ℕ → ℕ → List ℕ
-  numbersOf = numbersIn tariffHours tariffGain tariffPay freeHours jointGain pay
+  numbersOf = numbersIn tariffHours tariffGain tariffPay freeDealHours jointGain pay
 
   abbrev lineOf : ℕ → ℕ → List ℕ
-  lineOf = lineIn tariffHours tariffGain tariffPay freeHours jointGain pay
+  lineOf = lineIn tariffHours tariffGain tariffPay freeDealHours jointGain pay
 
   pub line-in-short : (i j : ℕ) → length (lineOf i j) ≤ 32
-  line-in-short i j = if-hours-short (at tariffHours i j) (at freeHours i j) (numbersOf i j)
+  line-in-short i j = if-hours-short (at tariffHours i j) (at freeDealHours i j) (numbersOf i j)
 
   pub turn-fits : (n m p room : ℕ) (numbers : List ℕ) {l l₁ : List ℕ} {from at : ℕ} → Inside n m p → Printable n m numbersOf →
       numbers ≡ numbersOf (p / m) (p % m) → p < 256 → from + 8192 ≤ room → Wrote l l₁ from at (pairLines lineOf m p) →

@@ -14,7 +14,7 @@ use Rattle.market.specs.Market.{Ticket, Settlement}
 use Rattle.reader.proofs.Facts.{unpacked-shape, unpacked-deal, settlement-shape}
 use Rattle.tables.specs.declared.Quantity.{Quantity}
 use Rattle.tables.specs.declared.Quantity.the-variants.{TariffCap, TariffGain, TariffPay, JointGain}
-use Rattle.tables.specs.declared.Quantity.the-variants.{TariffHours, FreeHours, Pay}
+use Rattle.tables.specs.declared.Quantity.the-variants.{TariffHours, FreeDealHours, Pay}
 use Rattle.verdicts.specs.declared.Verdict.{Verdict}
 use Rattle.tables.specs.View.{growersOf, pilotsOf, quantityOf, ticketOf, settlementOf, Holds}
 use Rattle.tables.proofs.Meaning.{held}
@@ -57,11 +57,11 @@ first-capped : (xs : List ℕ) (p : ℕ) → getD xs p 0 ≤ 60 → getD xs (p +
 first-capped xs p h = let e : p + 0 ≡ p = omega arith in rw e h
 
 -- the quantities of the lists in squares, as far as the market reaches
-pub record Squares (xs ys : List ℕ) (tariffHours tariffGain tariffPay freeHours jointGain pay : Grid) : Type 0 where
+pub record Squares (xs ys : List ℕ) (tariffHours tariffGain tariffPay freeDealHours jointGain pay : Grid) : Type 0 where
   pub tariffHoursIn : Holds TariffHours ys tariffHours
   pub tariffGainIn : Holds TariffGain xs tariffGain
   pub tariffPayIn : Holds TariffPay xs tariffPay
-  pub freeHoursIn : Holds FreeHours ys freeHours
+  pub freeDealHoursIn : Holds FreeDealHours ys freeDealHours
   pub jointGainIn : Holds JointGain xs jointGain
   pub payIn : Holds Pay ys pay
 
@@ -90,7 +90,7 @@ module _ {ticket xs file ys : List ℕ} (s : Settles ticket xs file ys) where
       omega (arith, ap verdictCount all-deals-judged, prod-small (growersOf xs) (pilotsOf xs) few-growers few-pilots)
 
   hours-small : (i j : ℕ) → i < growersOf xs → j < pilotsOf xs →
-      (quantityOf TariffHours ys i j ≤ 500) × (quantityOf FreeHours ys i j ≤ 500) × (quantityOf Pay ys i j ≤ 500)
+      (quantityOf TariffHours ys i j ≤ 500) × (quantityOf FreeDealHours ys i j ≤ 500) × (quantityOf Pay ys i j ≤ 500)
   hours-small i j hi hj =
       let d = unpacked-deal ticket xs (s .unpacks) i j hi hj in
       let f = s .good .sound .feasible in
@@ -111,45 +111,45 @@ module _ {ticket xs file ys : List ℕ} (s : Settles ticket xs file ys) where
   cell-is q list g eg ep f i j hi hj =
       sym (held list (growersOf xs) (pilotsOf xs) (sym eg) (sym ep) few-growers few-pilots q f i j hi hj)
 
-  module _ (tariffHours tariffGain tariffPay freeHours jointGain pay : Grid)
-      (filled : Squares xs ys tariffHours tariffGain tariffPay freeHours jointGain pay) where
+  module _ (tariffHours tariffGain tariffPay freeDealHours jointGain pay : Grid)
+      (filled : Squares xs ys tariffHours tariffGain tariffPay freeDealHours jointGain pay) where
     same-cells : (i j : ℕ) → i < growersOf xs → j < pilotsOf xs →
         (at tariffHours i j ≡ quantityOf TariffHours ys i j) × (at tariffGain i j ≡ quantityOf TariffGain xs i j)
-        × (at tariffPay i j ≡ quantityOf TariffPay xs i j) × (at freeHours i j ≡ quantityOf FreeHours ys i j)
+        × (at tariffPay i j ≡ quantityOf TariffPay xs i j) × (at freeDealHours i j ≡ quantityOf FreeDealHours ys i j)
         × (at jointGain i j ≡ quantityOf JointGain xs i j) × (at pay i j ≡ quantityOf Pay ys i j)
     same-cells i j hi hj =
         let a = settlement-shape (growersOf xs) (pilotsOf xs) file ys (s .read) in (
           cell-is TariffHours ys tariffHours (a .growers) (a .pilots) (filled .tariffHoursIn) i j hi hj,
           cell-is TariffGain xs tariffGain refl refl (filled .tariffGainIn) i j hi hj,
           cell-is TariffPay xs tariffPay refl refl (filled .tariffPayIn) i j hi hj,
-          cell-is FreeHours ys freeHours (a .growers) (a .pilots) (filled .freeHoursIn) i j hi hj,
+          cell-is FreeDealHours ys freeDealHours (a .growers) (a .pilots) (filled .freeDealHoursIn) i j hi hj,
           cell-is JointGain xs jointGain refl refl (filled .jointGainIn) i j hi hj,
           cell-is Pay ys pay (a .growers) (a .pilots) (filled .payIn) i j hi hj,
         )
 
-    squares-printable : Printable (growersOf xs) (pilotsOf xs) (numbersIn tariffHours tariffGain tariffPay freeHours jointGain pay)
+    squares-printable : Printable (growersOf xs) (pilotsOf xs) (numbersIn tariffHours tariffGain tariffPay freeDealHours jointGain pay)
     squares-printable i j hi hj k =
         let h = hours-small i j hi hj in
         let a = amounts-small i j hi hj in
         let e = same-cells i j hi hj in
-        all-small i j (at tariffHours i j) (at tariffGain i j) (at tariffPay i j) (at freeHours i j) (at jointGain i j) (at pay i j)
+        all-small i j (at tariffHours i j) (at tariffGain i j) (at tariffPay i j) (at freeDealHours i j) (at jointGain i j) (at pay i j)
         (omega (arith, few-growers)) (omega (arith, few-pilots)) (rw (e .0) (h .0)) (rw (e .1) (a .0)) (rw (e .2) (a .1))
         (rw (e .3) (h .1)) (rw (e .4) (a .2)) (rw (e .5) (h .2)) k
 
     squares-lines :
-        pairLines (lineIn tariffHours tariffGain tariffPay freeHours jointGain pay) (pilotsOf xs) (growersOf xs * pilotsOf xs)
+        pairLines (lineIn tariffHours tariffGain tariffPay freeDealHours jointGain pay) (pilotsOf xs) (growersOf xs * pilotsOf xs)
         ≡ pairLines (pairLine (ticketOf xs) (settlementOf ys)) (pilotsOf xs) (growersOf xs * pilotsOf xs)
     squares-lines = same-lines _ _ (growersOf xs) (pilotsOf xs)
         (λ i j hi hj. let e = same-cells i j hi hj in rw (e .0, e .1, e .2, e .3, e .4, e .5))
 
     -- written from squares, n and m being the list's growers and pilots
     pub lines-fit : (n m at : ℕ) → n ≡ growersOf xs → m ≡ pilotsOf xs → at ≤ 14 →
-        ((n ≤ 16) × (m ≤ 16) × (at + 8192 ≤ pageBytes)) × Printable n m (numbersIn tariffHours tariffGain tariffPay freeHours jointGain pay)
+        ((n ≤ 16) × (m ≤ 16) × (at + 8192 ≤ pageBytes)) × Printable n m (numbersIn tariffHours tariffGain tariffPay freeDealHours jointGain pay)
     lines-fit n m at en em near =
         ((omega (arith, en, few-growers), omega (arith, em, few-pilots), omega arith), rw (en, em) squares-printable)
 
     pub lines-written : {page page₁ : List ℕ} {at end : ℕ} (n m : ℕ) → n ≡ growersOf xs → m ≡ pilotsOf xs →
-        Wrote page page₁ at end (pairLines (lineIn tariffHours tariffGain tariffPay freeHours jointGain pay) m (n * m)) →
+        Wrote page page₁ at end (pairLines (lineIn tariffHours tariffGain tariffPay freeDealHours jointGain pay) m (n * m)) →
         Wrote page page₁ at end (linesOf xs ys)
     lines-written n m en em w = rw (en, em, squares-lines) at w
 

@@ -18,18 +18,18 @@ sheetWord = 83 ∷ 72 ∷ 69 ∷ 69 ∷ 84 ∷ 32 ∷ []
 abbrev pub soundWord : List ℕ
 soundWord = 83 ∷ 79 ∷ 85 ∷ 78 ∷ 68 ∷ 32 ∷ []
 
--- what the grower has of a free hour: the joint gain without the pilot's pay, 0 without free hours
+-- what the grower has of a free-deal hour: the joint gain without the pilot's pay, 0 without any
 abbrev pub growerShare : ℕ → ℕ → ℕ → ℕ
 growerShare hours gain pay = cond (eqb hours 0) 0 (gain - pay)
 
--- the numbers of the pair i j: grower, pilot, tariff hours, gain and pay of the tariff, free hours, the grower's share and the pilot's
+-- the numbers of the pair i j: grower, pilot, tariff hours, gain and pay of the tariff, free-deal hours, the grower's share and the pilot's
 abbrev pub pairNumbers : ℕ → ℕ → ℕ → ℕ → ℕ → ℕ → ℕ → ℕ → List ℕ
-pairNumbers i j tariffHours tariffGain tariffPay freeHours jointGain pay =
-    i ∷ j ∷ tariffHours ∷ tariffGain ∷ tariffPay ∷ freeHours ∷ growerShare freeHours jointGain pay ∷ pay ∷ []
+pairNumbers i j tariffHours tariffGain tariffPay freeDealHours jointGain pay =
+    i ∷ j ∷ tariffHours ∷ tariffGain ∷ tariffPay ∷ freeDealHours ∷ growerShare freeDealHours jointGain pay ∷ pay ∷ []
 
 -- a line for a pair with any hours
 abbrev pub lineIfHours : ℕ → ℕ → List ℕ → List ℕ
-lineIfHours tariffHours freeHours numbers = cond (eqb tariffHours 0 && eqb freeHours 0) [] (line numbers)
+lineIfHours tariffHours freeDealHours numbers = cond (eqb tariffHours 0 && eqb freeDealHours 0) [] (line numbers)
 
 -- the pair i j of a ticket that is settled
 abbrev pub pairLine : Ticket → Settlement → ℕ → ℕ → List ℕ

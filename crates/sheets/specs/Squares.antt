@@ -7,12 +7,12 @@ use Rattle.grid.specs.Grid.{Grid, at}
 use Rattle.sheets.specs.Sheet.{pairNumbers, lineIfHours}
 
 abbrev pub numbersIn : Grid → Grid → Grid → Grid → Grid → Grid → ℕ → ℕ → List ℕ
-numbersIn tariffHours tariffGain tariffPay freeHours jointGain pay i j =
-    pairNumbers i j (at tariffHours i j) (at tariffGain i j) (at tariffPay i j) (at freeHours i j) (at jointGain i j) (at pay i j)
+numbersIn tariffHours tariffGain tariffPay freeDealHours jointGain pay i j =
+    pairNumbers i j (at tariffHours i j) (at tariffGain i j) (at tariffPay i j) (at freeDealHours i j) (at jointGain i j) (at pay i j)
 
 abbrev pub lineIn : Grid → Grid → Grid → Grid → Grid → Grid → ℕ → ℕ → List ℕ
-lineIn tariffHours tariffGain tariffPay freeHours jointGain pay i j =
-    lineIfHours (at tariffHours i j) (at freeHours i j) (numbersIn tariffHours tariffGain tariffPay freeHours jointGain pay i j)
+lineIn tariffHours tariffGain tariffPay freeDealHours jointGain pay i j =
+    lineIfHours (at tariffHours i j) (at freeDealHours i j) (numbersIn tariffHours tariffGain tariffPay freeDealHours jointGain pay i j)
 
 -- every number of every pair of n growers and m pilots is in the table
 abbrev pub Printable : ℕ → ℕ → (ℕ → ℕ → List ℕ) → Type 0

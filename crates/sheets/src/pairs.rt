@@ -20,7 +20,7 @@ fn party(x: usize) -> u16
     x as u16
 }
 
-// What the grower has of a free hour; 0 without free hours.
+// What the grower has of a free-deal hour; 0 without any.
 fn grower_share(hours: u16, gain: u16, pay: u16) -> u16
     ensures { λ r. ⌜ r ≡ growerShare hours gain pay ⌝ }
 {
@@ -36,14 +36,14 @@ fn pair_numbers(
     tariff_hours: [[u16; 16]; 16],
     tariff_gain: [[u16; 16]; 16],
     tariff_pay: [[u16; 16]; 16],
-    free_hours: [[u16; 16]; 16],
+    free_deal_hours: [[u16; 16]; 16],
     joint_gain: [[u16; 16]; 16],
     pay: [[u16; 16]; 16],
 ) -> [u16; 8]
     requires { ⌜ (i < 16) × (j < 16) ⌝ }
-    ensures { λ r. ⌜ r ≡ numbersIn «tariff_hours» «tariff_gain» «tariff_pay» «free_hours» «joint_gain» pay i j ⌝ }
+    ensures { λ r. ⌜ r ≡ numbersIn «tariff_hours» «tariff_gain» «tariff_pay» «free_deal_hours» «joint_gain» pay i j ⌝ }
 {
-    let hours = cell(free_hours, i, j);
+    let hours = cell(free_deal_hours, i, j);
     let share = cell(pay, i, j);
     [
         party(i),
@@ -84,14 +84,14 @@ pub(crate) fn pair_lines(
     tariff_hours: [[u16; 16]; 16],
     tariff_gain: [[u16; 16]; 16],
     tariff_pay: [[u16; 16]; 16],
-    free_hours: [[u16; 16]; 16],
+    free_deal_hours: [[u16; 16]; 16],
     joint_gain: [[u16; 16]; 16],
     pay: [[u16; 16]; 16],
 ) -> usize
     requires { ⌜ (growers ≤ 16) × (pilots ≤ 16) × (at + 8192 ≤ pageBytes) ⌝ }
-    requires { ⌜ Printable growers pilots (numbersIn «tariff_hours» «tariff_gain» «tariff_pay» «free_hours» «joint_gain» pay) ⌝ }
+    requires { ⌜ Printable growers pilots (numbersIn «tariff_hours» «tariff_gain» «tariff_pay» «free_deal_hours» «joint_gain» pay) ⌝ }
     ensures { λ r. ⌜ Wrote (now (page .entry)) (now (page .exit)) at r
-        (pairLines (lineIn «tariff_hours» «tariff_gain» «tariff_pay» «free_hours» «joint_gain» pay) pilots (growers * pilots)) ⌝ }
+        (pairLines (lineIn «tariff_hours» «tariff_gain» «tariff_pay» «free_deal_hours» «joint_gain» pay) pilots (growers * pilots)) ⌝ }
 {
     let end = numbers::pairs(growers, pilots);
     let mut here = at;
@@ -102,7 +102,7 @@ pub(crate) fn pair_lines(
             tariff_hours,
             tariff_gain,
             tariff_pay,
-            free_hours,
+            free_deal_hours,
             joint_gain,
             pay,
         );

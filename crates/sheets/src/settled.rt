@@ -49,7 +49,7 @@ fn lines_between(page: &mut [u8; 8216], at: usize, ticket: &[u16], settlement: &
         tables::square(settlement, Quantity::TariffHours),
         tables::square(ticket, Quantity::TariffGain),
         tables::square(ticket, Quantity::TariffPay),
-        tables::square(settlement, Quantity::FreeHours),
+        tables::square(settlement, Quantity::FreeDealHours),
         tables::square(ticket, Quantity::JointGain),
         tables::square(settlement, Quantity::Pay),
     )

@@ -12,7 +12,7 @@ use Rattle.market.specs.Tables.{ticketIn, settlementIn}
 use Rattle.market.specs.Same.{SameTicket, SameSettlement}
 use Rattle.tables.specs.declared.Quantity.{Quantity}
 use Rattle.tables.specs.declared.Quantity.the-variants.{TariffCap, TariffGain, TariffPay, FreeCap, JointGain}
-use Rattle.tables.specs.declared.Quantity.the-variants.{TariffHours, FreeHours, Pay}
+use Rattle.tables.specs.declared.Quantity.the-variants.{TariffHours, FreeDealHours, Pay}
 use Rattle.tables.specs.View.{growersOf, pilotsOf, quantityOf, ticketOf, settlementOf, Holds, HoldTicket, HoldSettlement}
 
 -- n growers and m pilots of a list, for whom a square has room
@@ -40,14 +40,14 @@ module _ (list : List ℕ) (n m : ℕ) (en : n ≡ growersOf list) (em : m ≡ p
   }
 
   -- of any ticket with so many growers and pilots
-  pub settlement-same : {tariffHours freeHours pay : Grid} → HoldSettlement list tariffHours freeHours pay → (t : Ticket) →
-      t .growers ≡ n → t .pilots ≡ m → SameSettlement t (settlementIn tariffHours freeHours pay) (settlementOf list)
-  settlement-same {tariffHours} {freeHours} {pay} h t et eu = record {
+  pub settlement-same : {tariffHours freeDealHours pay : Grid} → HoldSettlement list tariffHours freeDealHours pay → (t : Ticket) →
+      t .growers ≡ n → t .pilots ≡ m → SameSettlement t (settlementIn tariffHours freeDealHours pay) (settlementOf list)
+  settlement-same {tariffHours} {freeDealHours} {pay} h t et eu = record {
     hours = hours;
     pay = λ i j hi hj. held Pay (h .payIn) i j (omega arith) (omega arith);
   }
     where
       hours : (d : Deal) (i j : ℕ) → i < t .growers → j < t .pilots →
-          settlementOf list .hours d i j ≡ settlementIn tariffHours freeHours pay .hours d i j
+          settlementOf list .hours d i j ≡ settlementIn tariffHours freeDealHours pay .hours d i j
       hours Tariff i j hi hj = held TariffHours (h .tariffHoursIn) i j (omega arith) (omega arith)
-      hours Free i j hi hj = held FreeHours (h .freeHoursIn) i j (omega arith) (omega arith)
+      hours Free i j hi hj = held FreeDealHours (h .freeDealHoursIn) i j (omega arith) (omega arith)

@@ -11,7 +11,7 @@ use Rattle.market.specs.Market.{Ticket, Settlement}
 use Rattle.market.specs.Tables.{byDeal}
 use Rattle.tables.specs.declared.Quantity.{Quantity}
 use Rattle.tables.specs.declared.Quantity.the-variants.{TariffCap, TariffGain, TariffPay, FreeCap, JointGain}
-use Rattle.tables.specs.declared.Quantity.the-variants.{TariffHours, FreeHours, Pay}
+use Rattle.tables.specs.declared.Quantity.the-variants.{TariffHours, FreeDealHours, Pay}
 
 -- how many growers and how many pilots there are
 abbrev pub growersOf : List ℕ → ℕ
@@ -32,7 +32,7 @@ placeOf TariffPay n = λ m. pairPlace (3 + n + m) 5 2 m
 placeOf FreeCap n = λ m. pairPlace (3 + n + m) 5 3 m
 placeOf JointGain n = λ m. pairPlace (3 + n + m) 5 4 m
 placeOf TariffHours n = pairPlace 3 3 0
-placeOf FreeHours n = pairPlace 3 3 1
+placeOf FreeDealHours n = pairPlace 3 3 1
 placeOf Pay n = pairPlace 3 3 2
 
 abbrev pub quantityOf : Quantity → List ℕ → ℕ → ℕ → ℕ
@@ -63,7 +63,7 @@ ticketOf list = record {
 
 abbrev pub settlementOf : List ℕ → Settlement
 settlementOf list = record {
-  hours = byDeal (quantityOf TariffHours list) (quantityOf FreeHours list);
+  hours = byDeal (quantityOf TariffHours list) (quantityOf FreeDealHours list);
   pay = quantityOf Pay list;
 }
 
@@ -86,7 +86,7 @@ pub record HoldTicket (list growerHours pilotHours : List ℕ) (tariffCap tariff
   pub jointGainIn : Holds JointGain list jointGain
 
 -- Squares hold all that a settlement's list says.
-pub record HoldSettlement (list : List ℕ) (tariffHours freeHours pay : Grid) : Type 0 where
+pub record HoldSettlement (list : List ℕ) (tariffHours freeDealHours pay : Grid) : Type 0 where
   pub tariffHoursIn : Holds TariffHours list tariffHours
-  pub freeHoursIn : Holds FreeHours list freeHours
+  pub freeDealHoursIn : Holds FreeDealHours list freeDealHours
   pub payIn : Holds Pay list pay

@@ -17,6 +17,6 @@ pub enum Quantity {
     FreeCap,
     JointGain,
     TariffHours,
-    FreeHours,
+    FreeDealHours,
     Pay,
 }

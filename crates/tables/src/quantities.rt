@@ -26,7 +26,7 @@ fn place(quantity: Quantity, n: usize, m: usize, i: usize, j: usize) -> usize
         Quantity::FreeCap => pair_place(start, 5, 3, m, i, j),
         Quantity::JointGain => pair_place(start, 5, 4, m, i, j),
         Quantity::TariffHours => pair_place(3, 3, 0, m, i, j),
-        Quantity::FreeHours => pair_place(3, 3, 1, m, i, j),
+        Quantity::FreeDealHours => pair_place(3, 3, 1, m, i, j),
         Quantity::Pay => pair_place(3, 3, 2, m, i, j),
     }
 }

@@ -37,7 +37,7 @@ cheapest-same s hours worth hours′ worth′ (suc k) h w =
       cheapest-same s hours worth hours′ worth′ k (λ d l x. h d l (omega arith)) (λ d l x. w d l (omega arith)),
     )
 
--- a turn of the loop: the tariff hours with partner k counted in, then the free hours
+-- a turn of the loop: the tariff hours with partner k counted in, then the free-deal hours
 pub cheapest-turn : (s a b c : Spare) (hours worth : Deal → ℕ → ℕ) (k : ℕ) → a ≡ cheapestOf s hours worth k →
     b ≡ countIn (hours Tariff k) (worth Tariff k) a → c ≡ countIn (hours Free k) (worth Free k) b → c ≡ cheapestOf s hours worth (k + 1)
 cheapest-turn s a b c hours worth k ea eb ec = rw (cheapest-more s hours worth k, ← ea, ← eb) ec

@@ -18,12 +18,12 @@ foundIf false v = Nothing
 
 -- of a wrong pair: 2, else 3, else 4
 abbrev pub pairFault : ℕ → ℕ → ℕ → ℕ → ℕ → ℕ → ℕ → ℕ → Found
-pairFault i j tariffHours tariffCap freeHours freeCap pay joint =
-    foundIf (pairTest tariffHours tariffCap freeHours freeCap pay joint)
-    (cond (ltb tariffCap tariffHours) (TariffOverCap i j) (cond (ltb freeCap freeHours) (FreeOverCap i j) (WrongPay i j)))
+pairFault i j tariffHours tariffCap freeDealHours freeCap pay jointGain =
+    foundIf (pairTest tariffHours tariffCap freeDealHours freeCap pay jointGain)
+    (cond (ltb tariffCap tariffHours) (TariffOverCap i j) (cond (ltb freeCap freeDealHours) (FreeOverCap i j) (WrongPay i j)))
 
 -- of a wrong deal, with its count: 7, else 8
 abbrev pub dealFault : ℕ → ℕ → Deal → ℕ → ℕ → ℕ → ℕ → ℕ → Spare → Spare → ℕ → ℕ → ℕ → Found
-dealFault i j d count hours cap freeOfGrower freeOfPilot ofGrower ofPilot gain pay joint =
-    foundIf (idleTest hours cap freeOfGrower freeOfPilot || blocksTest d hours cap ofGrower ofPilot gain pay joint)
+dealFault i j d count hours cap freeOfGrower freeOfPilot ofGrower ofPilot gain pay jointGain =
+    foundIf (idleTest hours cap freeOfGrower freeOfPilot || blocksTest d hours cap ofGrower ofPilot gain pay jointGain)
     (cond (idleTest hours cap freeOfGrower freeOfPilot) (Idle i j d count) (Blocks i j d count))

@@ -15,10 +15,10 @@ use Rattle.verdicts.specs.declared.Spare.the-variants.{Nothing, Worth}
 abbrev pub payTest : ℕ → ℕ → ℕ → Bool
 payTest gain hours pay = ltb gain pay || (eqb hours 0 && ltb 0 pay)
 
--- something is wrong with a pair: tariff hours over cap, free hours over cap, pay wrong
+-- something is wrong with a pair: tariff hours over cap, free-deal hours over cap, pay wrong
 abbrev pub pairTest : ℕ → ℕ → ℕ → ℕ → ℕ → ℕ → Bool
-pairTest tariffHours tariffCap freeHours freeCap pay gain =
-    ltb tariffCap tariffHours || (ltb freeCap freeHours || payTest gain freeHours pay)
+pairTest tariffHours tariffCap freeDealHours freeCap pay gain =
+    ltb tariffCap tariffHours || (ltb freeCap freeDealHours || payTest gain freeDealHours pay)
 
 -- idle: a deal below its cap while both parties have free hours
 abbrev pub idleTest : ℕ → ℕ → ℕ → ℕ → Bool
@@ -73,9 +73,9 @@ bothBelow (Worth w) (Worth u) v = ltb (w + u) v
 -- an hour more outweighs two spares: those of a tariff deal are worth less than the gain and the pay, each; those of a free deal are
 -- together worth less than the joint gain
 abbrev pub outweighs : Deal → Spare → Spare → ℕ → ℕ → ℕ → Bool
-outweighs Tariff ofGrower ofPilot gain pay joint = below ofGrower gain && below ofPilot pay
-outweighs Free ofGrower ofPilot gain pay joint = bothBelow ofGrower ofPilot joint
+outweighs Tariff ofGrower ofPilot gain pay jointGain = below ofGrower gain && below ofPilot pay
+outweighs Free ofGrower ofPilot gain pay jointGain = bothBelow ofGrower ofPilot jointGain
 
 -- blocks: a deal below its cap of which an hour more outweighs two spares (5.8 and 5.9)
 abbrev pub blocksTest : Deal → ℕ → ℕ → Spare → Spare → ℕ → ℕ → ℕ → Bool
-blocksTest d hours cap ofGrower ofPilot gain pay joint = ltb hours cap && outweighs d ofGrower ofPilot gain pay joint
+blocksTest d hours cap ofGrower ofPilot gain pay jointGain = ltb hours cap && outweighs d ofGrower ofPilot gain pay jointGain

@@ -36,12 +36,19 @@ fn both_below(of_grower: Spare, of_pilot: Spare, amount: u16) -> bool
 }
 
 // An hour more of a deal outweighs two spares.
-fn outweighs(deal: Deal, of_grower: Spare, of_pilot: Spare, gain: u16, pay: u16, joint: u16) -> bool
-    ensures { λ r. ⌜ r ≡ outweighs deal «of_grower» «of_pilot» gain pay joint ⌝ }
+fn outweighs(
+    deal: Deal,
+    of_grower: Spare,
+    of_pilot: Spare,
+    gain: u16,
+    pay: u16,
+    joint_gain: u16,
+) -> bool
+    ensures { λ r. ⌜ r ≡ outweighs deal «of_grower» «of_pilot» gain pay «joint_gain» ⌝ }
 {
     match deal {
         Deal::Tariff => below(of_grower, gain) && below(of_pilot, pay),
-        Deal::Free => both_below(of_grower, of_pilot, joint),
+        Deal::Free => both_below(of_grower, of_pilot, joint_gain),
     }
 }
 
@@ -53,11 +60,11 @@ fn blocks(
     of_pilot: Spare,
     gain: u16,
     pay: u16,
-    joint: u16,
+    joint_gain: u16,
 ) -> bool
-    ensures { λ r. ⌜ r ≡ blocksTest deal hours cap «of_grower» «of_pilot» gain pay joint ⌝ }
+    ensures { λ r. ⌜ r ≡ blocksTest deal hours cap «of_grower» «of_pilot» gain pay «joint_gain» ⌝ }
 {
-    hours < cap && outweighs(deal, of_grower, of_pilot, gain, pay, joint)
+    hours < cap && outweighs(deal, of_grower, of_pilot, gain, pay, joint_gain)
 }
 
 // The fault of a deal, by its hours and cap, both parties' free hours and cheapest spares, and what an hour more earns: the tariff's gain
@@ -75,9 +82,9 @@ pub fn deal_fault(
     of_pilot: Spare,
     gain: u16,
     pay: u16,
-    joint: u16,
+    joint_gain: u16,
 ) -> Found
-    ensures { λ r. ⌜ r ≡ dealFault grower pilot deal count hours cap «free_of_grower» «free_of_pilot» «of_grower» «of_pilot» gain pay joint ⌝ }
+    ensures { λ r. ⌜ r ≡ dealFault grower pilot deal count hours cap «free_of_grower» «free_of_pilot» «of_grower» «of_pilot» gain pay «joint_gain» ⌝ }
 {
     if idle(hours, cap, free_of_grower, free_of_pilot) {
         let verdict = Verdict::Idle {
@@ -88,7 +95,7 @@ pub fn deal_fault(
         };
         return Found::Fault { verdict };
     }
-    if blocks(deal, hours, cap, of_grower, of_pilot, gain, pay, joint) {
+    if blocks(deal, hours, cap, of_grower, of_pilot, gain, pay, joint_gain) {
         let verdict = Verdict::Blocks {
             grower,
             pilot,

@@ -17,22 +17,22 @@ pub fn pair_fault(
     pilot: usize,
     tariff_hours: u16,
     tariff_cap: u16,
-    free_hours: u16,
+    free_deal_hours: u16,
     free_cap: u16,
     pay: u16,
-    joint: u16,
+    joint_gain: u16,
 ) -> Found
-    ensures { λ r. ⌜ r ≡ pairFault grower pilot «tariff_hours» «tariff_cap» «free_hours» «free_cap» pay joint ⌝ }
+    ensures { λ r. ⌜ r ≡ pairFault grower pilot «tariff_hours» «tariff_cap» «free_deal_hours» «free_cap» pay «joint_gain» ⌝ }
 {
     if tariff_cap < tariff_hours {
         let verdict = Verdict::TariffOverCap { grower, pilot };
         return Found::Fault { verdict };
     }
-    if free_cap < free_hours {
+    if free_cap < free_deal_hours {
         let verdict = Verdict::FreeOverCap { grower, pilot };
         return Found::Fault { verdict };
     }
-    if wrong_pay(joint, free_hours, pay) {
+    if wrong_pay(joint_gain, free_deal_hours, pay) {
         let verdict = Verdict::WrongPay { grower, pilot };
         return Found::Fault { verdict };
     }

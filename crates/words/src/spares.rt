@@ -126,7 +126,7 @@ pub(crate) fn of_grower(
     deal: Deal,
 ) -> Spare {
     let by_tariff = row(tables::square(settlement, Quantity::TariffHours), i);
-    let by_free = row(tables::square(settlement, Quantity::FreeHours), i);
+    let by_free = row(tables::square(settlement, Quantity::FreeDealHours), i);
     let pay = row(tables::square(settlement, Quantity::Pay), i);
     cheapest(
         at(tables::grower_hours(ticket), i),
@@ -148,7 +148,7 @@ pub(crate) fn of_pilot(
     deal: Deal,
 ) -> Spare {
     let by_tariff = column(tables::square(settlement, Quantity::TariffHours), j);
-    let by_free = column(tables::square(settlement, Quantity::FreeHours), j);
+    let by_free = column(tables::square(settlement, Quantity::FreeDealHours), j);
     cheapest(
         at(tables::pilot_hours(ticket), j),
         by_tariff,

@@ -20,7 +20,7 @@ first-filled c = c .before .before .before .before .before .before .before .befo
 abbrev filled : tie.After-settle-squares → tie.After-fill5
 filled c = c .before .before .before .before .before
 
-abbrev settled : tie.After-free-hours2 → tie.After-settle-squares
+abbrev settled : tie.After-free-deal-hours2 → tie.After-settle-squares
 settled c = c .before .before .before
 
 few : (c : tie.After-pilots) → (c .before .growers .result ≤ 16) × (c .pilots .result ≤ 16)

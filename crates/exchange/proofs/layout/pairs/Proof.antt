@@ -6,16 +6,16 @@ use Rattle.exchange.proofs.layout.pairs.Statement.{statement}
 use Rattle.exchange.proofs.layout.pairs.Tie as tie
 
 abbrev Inv-loop2 : tie.InvT-loop2
-Inv-loop2 growers pilots tariff-cap gain pay free-cap joint i j₀ j = j ≤ pilots
+Inv-loop2 growers pilots tariff-cap gain pay free-cap joint-gain i j₀ j = j ≤ pilots
 
 abbrev μ-loop2 : tie.MeasureT-loop2
-μ-loop2 growers pilots tariff-cap gain pay free-cap joint i j₀ j = pilots - j
+μ-loop2 growers pilots tariff-cap gain pay free-cap joint-gain i j₀ j = pilots - j
 
 abbrev Inv-loop : tie.InvT-loop
-Inv-loop growers pilots tariff-cap gain pay free-cap joint i₀ i = i ≤ growers
+Inv-loop growers pilots tariff-cap gain pay free-cap joint-gain i₀ i = i ≤ growers
 
 abbrev μ-loop : tie.MeasureT-loop
-μ-loop growers pilots tariff-cap gain pay free-cap joint i₀ i = growers - i
+μ-loop growers pilots tariff-cap gain pay free-cap joint-gain i₀ i = growers - i
 
 pub pairs-spec : {M : Type 1} → statement M
 pairs-spec =

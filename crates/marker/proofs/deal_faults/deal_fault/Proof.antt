@@ -8,14 +8,14 @@ use Rattle.marker.proofs.deal_faults.deal_fault.Tie as tie
 returns : tie.Need-returns
 returns c =
     let a = c .before .before .before .args in
-    at-cap (a .deal) (a .t2) (a .t3) (a .n) (a .m) (a .i) (a .j) _ (a .joint) _ _
+    at-cap (a .deal) (a .t2) (a .t3) (a .n) (a .m) (a .i) (a .j) _ (a .joint-gain) _ _
     (c .before .before .hours-with .ensures) (c .before .of-deal .ensures) (c .if1 .taken)
 
 returns-2 : tie.Need-returns-2
 returns-2 c =
     let l = c .before .before .before .before .before in
     let a = l .before .before .before .before .args in
-    below-cap (a .deal) (a .t2) (a .t3) (a .n) (a .m) (a .i) (a .j) _ (a .joint) _ _
+    below-cap (a .deal) (a .t2) (a .t3) (a .n) (a .m) (a .i) (a .j) _ (a .joint-gain) _ _
     (l .before .before .before .hours-with .ensures) (l .before .before .of-deal .ensures) _ (l .looked-at .ensures)
     _ _ (c .before .before .before .before .spare .ensures) (c .before .before .before .spare2 .ensures) _ (c .deal-fault .ensures)
 

@@ -30,7 +30,7 @@ returns c =
     })
     (record {
       tariffHoursIn = c .before .before .before .square6 .ensures;
-      freeHoursIn = c .before .before .square7 .ensures;
+      freeDealHoursIn = c .before .before .square7 .ensures;
       payIn = c .before .square8 .ensures;
     })
 

@@ -16,18 +16,18 @@ use Rattle.marker.proofs.pair_faults.first_pair_fault.Statement.{statem
 use Rattle.marker.proofs.pair_faults.first_pair_fault.Tie as tie
 
 abbrev Inv-loop2 : tie.InvT-loop2
-Inv-loop2 n m tariff-cap free-cap joint-gain tariff-hours free-hours pay i j₀ j = (j ≤ m) ×
-    none (pairFaultAt (ticketIn n m [] [] tariff-cap [] [] free-cap joint-gain) (settlementIn tariff-hours free-hours pay)) (i * m + j)
+Inv-loop2 n m tariff-cap free-cap joint-gain tariff-hours free-deal-hours pay i j₀ j = (j ≤ m) ×
+    none (pairFaultAt (ticketIn n m [] [] tariff-cap [] [] free-cap joint-gain) (settlementIn tariff-hours free-deal-hours pay)) (i * m + j)
 
 abbrev μ-loop2 : tie.MeasureT-loop2
-μ-loop2 n m tariff-cap free-cap joint-gain tariff-hours free-hours pay i j₀ j = m - j
+μ-loop2 n m tariff-cap free-cap joint-gain tariff-hours free-deal-hours pay i j₀ j = m - j
 
 abbrev Inv-loop : tie.InvT-loop
-Inv-loop n m tariff-cap free-cap joint-gain tariff-hours free-hours pay i₀ i = (i ≤ n) ×
-    none (pairFaultAt (ticketIn n m [] [] tariff-cap [] [] free-cap joint-gain) (settlementIn tariff-hours free-hours pay)) (i * m)
+Inv-loop n m tariff-cap free-cap joint-gain tariff-hours free-deal-hours pay i₀ i = (i ≤ n) ×
+    none (pairFaultAt (ticketIn n m [] [] tariff-cap [] [] free-cap joint-gain) (settlementIn tariff-hours free-deal-hours pay)) (i * m)
 
 abbrev μ-loop : tie.MeasureT-loop
-μ-loop n m tariff-cap free-cap joint-gain tariff-hours free-hours pay i₀ i = n - i
+μ-loop n m tariff-cap free-cap joint-gain tariff-hours free-deal-hours pay i₀ i = n - i
 
 -- the ticket and the settlement of the squares
 abbrev the-ticket : tie.Start Inv-loop2 μ-loop2 Inv-loop μ-loop → Ticket

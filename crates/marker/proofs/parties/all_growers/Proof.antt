@@ -7,7 +7,7 @@ use Rattle.marker.proofs.parties.all_growers.Tie as tie
 returns : tie.Need-returns
 returns c =
     let a = c .before .before .args in
-    λ i hi. grower-is (a .n) (a .m) (a .hours) (a .tariff-hours) (a .free-hours) (a .tariff-gain) (a .joint-gain) (a .pay) _
+    λ i hi. grower-is (a .n) (a .m) (a .hours) (a .tariff-hours) (a .free-deal-hours) (a .tariff-gain) (a .joint-gain) (a .pay) _
     (c .before .grower-shares .ensures) i hi _ (c .parties .ensures i hi)
 
 pub all-growers-spec : {M : Type 1} → statement M

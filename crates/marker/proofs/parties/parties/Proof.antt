@@ -9,11 +9,11 @@ use Rattle.marker.proofs.parties.parties.Statement.{statement}
 use Rattle.marker.proofs.parties.parties.Tie as tie
 
 abbrev Inv-loop : tie.InvT-loop
-Inv-loop count partners hours tariff-hours free-hours earned share all₀ p₀ all p = (p ≤ count) ×
-    Made nobody (λ k q. q ≡ partyAt hours tariff-hours free-hours earned share partners k) p all
+Inv-loop count partners hours tariff-hours free-deal-hours earned share all₀ p₀ all p = (p ≤ count) ×
+    Made nobody (λ k q. q ≡ partyAt hours tariff-hours free-deal-hours earned share partners k) p all
 
 abbrev μ-loop : tie.MeasureT-loop
-μ-loop count partners hours tariff-hours free-hours earned share all₀ p₀ all p = count - p
+μ-loop count partners hours tariff-hours free-deal-hours earned share all₀ p₀ all p = count - p
 
 loop-holds : tie.Need-loop-holds Inv-loop μ-loop
 loop-holds c = (omega arith, made-start _ _ _ (c .no-parties .ensures))

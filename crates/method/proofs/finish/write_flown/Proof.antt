@@ -14,20 +14,20 @@ use Rattle.method.proofs.finish.write_flown.Statement.{statement}
 use Rattle.method.proofs.finish.write_flown.Tie as tie
 
 abbrev Inv-loop2 : tie.InvT-loop2
-Inv-loop2 growers pilots shift tariff-hours₀ free-hours₀ held price pay₀ i j₀ tariff-hours free-hours pay j =
+Inv-loop2 growers pilots shift tariff-hours₀ free-deal-hours₀ held price pay₀ i j₀ tariff-hours free-deal-hours pay j =
     (j ≤ pilots) × RowPart (hoursOf (heldIn held) Tariff) pilots i j tariff-hours₀ tariff-hours ×
-    RowPart (hoursOf (heldIn held) Free) pilots i j free-hours₀ free-hours × RowPart (paysOf held price shift) pilots i j pay₀ pay
+    RowPart (hoursOf (heldIn held) Free) pilots i j free-deal-hours₀ free-deal-hours × RowPart (paysOf held price shift) pilots i j pay₀ pay
 
 abbrev μ-loop2 : tie.MeasureT-loop2
-μ-loop2 growers pilots shift tariff-hours₀ free-hours₀ held price pay₀ i j₀ tariff-hours free-hours pay j = pilots - j
+μ-loop2 growers pilots shift tariff-hours₀ free-deal-hours₀ held price pay₀ i j₀ tariff-hours free-deal-hours pay j = pilots - j
 
 abbrev Inv-loop : tie.InvT-loop
-Inv-loop growers pilots shift tariff-hours₀ free-hours₀ held price pay₀ i₀ tariff-hours free-hours pay i =
+Inv-loop growers pilots shift tariff-hours₀ free-deal-hours₀ held price pay₀ i₀ tariff-hours free-deal-hours pay i =
     (i ≤ growers) × Part tariff-hours₀ (hoursOf (heldIn held) Tariff) pilots i 0 tariff-hours ×
-    Part free-hours₀ (hoursOf (heldIn held) Free) pilots i 0 free-hours × Part pay₀ (paysOf held price shift) pilots i 0 pay
+    Part free-deal-hours₀ (hoursOf (heldIn held) Free) pilots i 0 free-deal-hours × Part pay₀ (paysOf held price shift) pilots i 0 pay
 
 abbrev μ-loop : tie.MeasureT-loop
-μ-loop growers pilots shift tariff-hours₀ free-hours₀ held price pay₀ i₀ tariff-hours free-hours pay i = growers - i
+μ-loop growers pilots shift tariff-hours₀ free-deal-hours₀ held price pay₀ i₀ tariff-hours free-deal-hours pay i = growers - i
 
 loop-holds : tie.Need-loop-holds Inv-loop2 μ-loop2 Inv-loop μ-loop
 loop-holds c =
@@ -76,7 +76,7 @@ loop-again c =
 returns : tie.Need-returns Inv-loop2 μ-loop2 Inv-loop μ-loop
 returns c = let inv = c .before .loop .inv in record {
   tariffHoursIn = part-end _ _ _ _ _ _ (omega arith) (omega arith) (inv .1);
-  freeHoursIn = part-end _ _ _ _ _ _ (omega arith) (omega arith) (inv .2);
+  freeDealHoursIn = part-end _ _ _ _ _ _ (omega arith) (omega arith) (inv .2);
   payIn = filled-zeros _ _ _ _ _ (c .before .before .zeros .ensures .1) (part-end _ _ _ _ _ _ (omega arith) (omega arith) (inv .3));
 }
 

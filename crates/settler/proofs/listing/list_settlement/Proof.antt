@@ -11,10 +11,10 @@ use Rattle.settler.proofs.listing.list_settlement.Statement.{statement}
 use Rattle.settler.proofs.listing.list_settlement.Tie as tie
 
 abbrev Inv-loop : tie.InvT-loop
-Inv-loop list₀ growers pilots tariff-hours free-hours pay pairs k₀ list k = (k ≤ pairs) × ListedTo growers pilots tariff-hours free-hours pay k list
+Inv-loop list₀ growers pilots tariff-hours free-deal-hours pay pairs k₀ list k = (k ≤ pairs) × ListedTo growers pilots tariff-hours free-deal-hours pay k list
 
 abbrev μ-loop : tie.MeasureT-loop
-μ-loop list₀ growers pilots tariff-hours free-hours pay pairs k₀ list k = pairs - k
+μ-loop list₀ growers pilots tariff-hours free-deal-hours pay pairs k₀ list k = pairs - k
 
 -- at a turn's start: the pair is within the squares, and there are at most 256
 turn : (c : tie.In-loop Inv-loop μ-loop) → let a = c .before .before .before .before .before .before .args in

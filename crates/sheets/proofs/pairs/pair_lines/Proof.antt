@@ -13,11 +13,11 @@ use Rattle.sheets.proofs.pairs.pair_lines.Statement.{statement}
 use Rattle.sheets.proofs.pairs.pair_lines.Tie as tie
 
 abbrev Inv-loop : tie.InvT-loop
-Inv-loop page₀ at growers pilots tariff-hours tariff-gain tariff-pay free-hours joint-gain pay end here₀ p₀ page here p =
-    (p ≤ end) × Wrote page₀ page at here (pairLines (lineIn tariff-hours tariff-gain tariff-pay free-hours joint-gain pay) pilots p)
+Inv-loop page₀ at growers pilots tariff-hours tariff-gain tariff-pay free-deal-hours joint-gain pay end here₀ p₀ page here p =
+    (p ≤ end) × Wrote page₀ page at here (pairLines (lineIn tariff-hours tariff-gain tariff-pay free-deal-hours joint-gain pay) pilots p)
 
 abbrev μ-loop : tie.MeasureT-loop
-μ-loop page₀ at growers pilots tariff-hours tariff-gain tariff-pay free-hours joint-gain pay end here₀ p₀ page here p = end - p
+μ-loop page₀ at growers pilots tariff-hours tariff-gain tariff-pay free-deal-hours joint-gain pay end here₀ p₀ page here p = end - p
 
 loop-holds : tie.Need-loop-holds Inv-loop μ-loop
 loop-holds c = (omega arith, no-pairs _ _ _ _)
@@ -45,7 +45,7 @@ pair-line-requires c κs =
     let q = c .before .before .before in
     let s = q .before .before .before in
     let a = s .args in
-    turn-fits (a .tariff-hours) (a .tariff-gain) (a .tariff-pay) (a .free-hours) (a .joint-gain) (a .pay) _ (a .pilots) (q .before .loop .p) _ _
+    turn-fits (a .tariff-hours) (a .tariff-gain) (a .tariff-pay) (a .free-deal-hours) (a .joint-gain) (a .pay) _ (a .pilots) (q .before .loop .p) _ _
     (pair q) (s .pre .1) (c .before .before .pair-numbers .ensures) (omega (arith, q .before .before .pairs .ensures .2))
     (s .pre .0 .2) (q .before .loop .inv .1)
 
@@ -54,7 +54,7 @@ loop-again c =
     let q = c .before .before .before .before in
     let a = q .before .before .before .args in (
       omega arith,
-      turn-writes (a .tariff-hours) (a .tariff-gain) (a .tariff-pay) (a .free-hours) (a .joint-gain) (a .pay) (a .pilots) (q .before .loop .p) _
+      turn-writes (a .tariff-hours) (a .tariff-gain) (a .tariff-pay) (a .free-deal-hours) (a .joint-gain) (a .pay) (a .pilots) (q .before .loop .p) _
           (c .before .before .before .pair-numbers .ensures) (q .before .loop .inv .1) (c .pair-line .ensures),
     )
 

@@ -13,7 +13,7 @@ filled c = record {
   tariffHoursIn = c .before .before .before .before .before .square .ensures;
   tariffGainIn = c .before .before .before .before .square2 .ensures;
   tariffPayIn = c .before .before .before .square3 .ensures;
-  freeHoursIn = c .before .before .square4 .ensures;
+  freeDealHoursIn = c .before .before .square4 .ensures;
   jointGainIn = c .before .square5 .ensures;
   payIn = c .square6 .ensures;
 }
