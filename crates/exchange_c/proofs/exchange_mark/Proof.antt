@@ -1,17 +1,23 @@
 -- `exchange_c::exchange_mark` meets its contract: the values of the marker's verdict as a number.
 -- Assumes nothing.
-use mathlib.Core.Path.{ap, _∙_}
+use mathlib.Core.Path.{_≡_, ap, _∙_}
+use Rattle.marker.specs.Marked.{markedValues}
 use Rattle.marker.proofs.ValueBounds.{marked-bounded}
 use Rattle.exchange_c.specs.Marks.{markNumber}
 use borrow.Author.Needs.{needs}
 use Rattle.exchange_c.proofs.exchange_mark.Statement.{statement}
 use Rattle.exchange_c.proofs.exchange_mark.Tie as tie
 
+-- the values are those of the settlement, marked against the ticket
+values : (c : tie.After-values-of) → let a = c .before .before .before .before .args in
+    c .values-of .result ≡ markedValues (a .ticket .now) (a .settlement .now)
+values c = c .values-of .ensures ∙ c .before .mark .ensures .1
+
 mark-number-requires : tie.Need-mark-number-requires
-mark-number-requires c κs = rw (c .values-of .ensures ∙ c .before .mark .ensures .1) (marked-bounded _ _)
+mark-number-requires c κs = rw (values c) (marked-bounded _ _)
 
 returns : tie.Need-returns
-returns c = c .mark-number .ensures ∙ ap markNumber (c .before .values-of .ensures ∙ c .before .before .mark .ensures .1)
+returns c = c .mark-number .ensures ∙ ap markNumber (values (c .before))
 
 pub exchange-mark-spec : {M : Type 1} → statement M
 exchange-mark-spec = tie.close (tie.spec (λ c κs. search needs) (λ c κs. search needs) mark-number-requires returns)

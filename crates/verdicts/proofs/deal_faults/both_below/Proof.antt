@@ -1,4 +1,5 @@
 -- `verdicts::both_below` meets its contract: two spares of 16 bits have a sum that fits.
+use mathlib.Core.Path.{refl}
 use borrow.Author.Needs.{needs}
 use Rattle.verdicts.proofs.deal_faults.both_below.Statement.{statement}
 use Rattle.verdicts.proofs.deal_faults.both_below.Tie as tie
@@ -12,6 +13,7 @@ returns-3 c =
       c .before .wide2 .ensures .0,
       c .wide3 .ensures .0,
     )
+    refl
 
 pub both-below-spec : {M : Type 1} → statement M
 both-below-spec =
