@@ -68,42 +68,54 @@ module _ (held held′ : List (List Agreed)) (i j x : ℕ) (q : Slot) (more : Mo
 
 -- One pair with more hours, or fewer.
 module _ (agreed : Agreed) (d : Deal) (x : ℕ) where
+  abbrev moreTariff : Agreed
+  moreTariff = record { «by_tariff» = agreed .«by_tariff» + x; «old_free» = agreed .«old_free»; «new_free» = agreed .«new_free» }
+
   pub more-tariff : d ≡ Tariff →
-      MoreHeld agreed (record { «by_tariff» = agreed .«by_tariff» + x; «old_free» = agreed .«old_free»; «new_free» = agreed .«new_free» }) (slotFor d) x
+      MoreHeld agreed moreTariff (slotFor d) x
   more-tariff e = rw e (record { there = refl; rest = rest })
     where
       rest : (r : Slot) → (r ≡ byTariff) ⊎
-          (hoursHeld (record { «by_tariff» = agreed .«by_tariff» + x; «old_free» = agreed .«old_free»; «new_free» = agreed .«new_free» }) r ≡ hoursHeld agreed r)
+          (hoursHeld moreTariff r ≡ hoursHeld agreed r)
       rest byTariff = inl refl
       rest oldFree = inr refl
       rest newFree = inr refl
 
+  abbrev moreFree : Agreed
+  moreFree = record { «by_tariff» = agreed .«by_tariff»; «old_free» = agreed .«old_free»; «new_free» = agreed .«new_free» + x }
+
   pub more-free : d ≡ Free →
-      MoreHeld agreed (record { «by_tariff» = agreed .«by_tariff»; «old_free» = agreed .«old_free»; «new_free» = agreed .«new_free» + x }) (slotFor d) x
+      MoreHeld agreed moreFree (slotFor d) x
   more-free e = rw e (record { there = refl; rest = rest })
     where
       rest : (r : Slot) → (r ≡ newFree) ⊎
-          (hoursHeld (record { «by_tariff» = agreed .«by_tariff»; «old_free» = agreed .«old_free»; «new_free» = agreed .«new_free» + x }) r ≡ hoursHeld agreed r)
+          (hoursHeld moreFree r ≡ hoursHeld agreed r)
       rest byTariff = inr refl
       rest oldFree = inr refl
       rest newFree = inl refl
 
+  abbrev fewerTariff : Agreed
+  fewerTariff = record { «by_tariff» = agreed .«by_tariff» - x; «old_free» = agreed .«old_free»; «new_free» = agreed .«new_free» }
+
   pub fewer-tariff : d ≡ Tariff → x ≤ hoursHeld agreed (lateSlot d) →
-      MoreHeld (record { «by_tariff» = agreed .«by_tariff» - x; «old_free» = agreed .«old_free»; «new_free» = agreed .«new_free» }) agreed (lateSlot d) x
+      MoreHeld fewerTariff agreed (lateSlot d) x
   fewer-tariff e h = let le = rw e at h in rw e (record { there = omega arith; rest = rest })
     where
       rest : (r : Slot) → (r ≡ byTariff) ⊎
-          (hoursHeld agreed r ≡ hoursHeld (record { «by_tariff» = agreed .«by_tariff» - x; «old_free» = agreed .«old_free»; «new_free» = agreed .«new_free» }) r)
+          (hoursHeld agreed r ≡ hoursHeld fewerTariff r)
       rest byTariff = inl refl
       rest oldFree = inr refl
       rest newFree = inr refl
 
+  abbrev fewerFree : Agreed
+  fewerFree = record { «by_tariff» = agreed .«by_tariff»; «old_free» = agreed .«old_free» - x; «new_free» = agreed .«new_free» }
+
   pub fewer-free : d ≡ Free → x ≤ hoursHeld agreed (lateSlot d) →
-      MoreHeld (record { «by_tariff» = agreed .«by_tariff»; «old_free» = agreed .«old_free» - x; «new_free» = agreed .«new_free» }) agreed (lateSlot d) x
+      MoreHeld fewerFree agreed (lateSlot d) x
   fewer-free e h = let le = rw e at h in rw e (record { there = omega arith; rest = rest })
     where
       rest : (r : Slot) → (r ≡ oldFree) ⊎
-          (hoursHeld agreed r ≡ hoursHeld (record { «by_tariff» = agreed .«by_tariff»; «old_free» = agreed .«old_free» - x; «new_free» = agreed .«new_free» }) r)
+          (hoursHeld agreed r ≡ hoursHeld fewerFree r)
       rest byTariff = inr refl
       rest oldFree = inl refl
       rest newFree = inr refl
@@ -114,7 +126,8 @@ module _ (held : List (List Agreed)) (full : Full held) (i j x : ℕ) (hi : i < 
   pub put-more : MoreHeld (agreedAt held i j) agreed q x → Full held′ × Added (heldIn held) (heldIn held′) q i j x
   put-more more = rw e (
     put-full held full i j hi hj agreed,
-    more-added held (putCell held i j agreed) i j x q (rw (put-there held full i j hi hj agreed) more) (put-elsewhere held full i j hi hj agreed),
+    more-added held (putCell held i j agreed) i j x q (rw (put-there held full i j hi hj agreed) more)
+        (put-elsewhere held full i j hi hj agreed),
   )
 
   pub put-fewer : MoreHeld agreed (agreedAt held i j) q x → Full held′ × Added (heldIn held′) (heldIn held) q i j x

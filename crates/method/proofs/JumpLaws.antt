@@ -139,7 +139,10 @@ module _ (t : Ticket) (chosen : ℕ → Bool) (price : ℕ → ℕ) (held : Held
 
   -- every grower bears a rise of 0
   pub growers-still : (k : ℕ) → GrowersBear t chosen price held k 0
-  growers-still k = record { grower = λ i h x pos le. absurd (omega arith); tariffs = λ i h. record { each = λ x pos le. absurd (omega arith) } }
+  growers-still k = record {
+    grower = λ i h x pos le. absurd (omega arith);
+    tariffs = λ i h. record { each = λ x pos le. absurd (omega arith) };
+  }
 
   -- what one grower and his tariff hours bear
   pub growers-one : (r paid here : ℕ) → r ≤ paid → r ≤ here → TariffsBear t chosen price held 0 (t .pilots) paid →

@@ -12,3 +12,4 @@ pub mod Soundness
 pub mod PairLimits
 pub mod JumpLaws
 pub mod JumpTurns
+pub mod TurnSteps

@@ -27,7 +27,12 @@ free-start t held free l all none = record {
     arith,
     all j,
     sum-zero (t .growers),
-    sum-same (λ i. hoursOf (heldIn held) Tariff i j + hoursOf (heldIn held) Free i j) (λ i. 0) (t .growers) (λ i hi. omega (arith, nothing-held held none byTariff i j, nothing-held held none oldFree i j, nothing-held held none newFree i j)),
+    sum-same (λ i. hoursOf (heldIn held) Tariff i j + hoursOf (heldIn held) Free i j) (λ i. 0) (t .growers) (λ i hi. omega (
+      arith,
+      nothing-held held none byTariff i j,
+      nothing-held held none oldFree i j,
+      nothing-held held none newFree i j,
+    )),
   );
 }
 

@@ -22,7 +22,8 @@ use Rattle.method.specs.Result.{Flown, Beyond}
 module _ (n m : ℕ) (growerHours pilotHours : List ℕ) (tariffCap tariffGain tariffPay freeCap jointGain : Grid) (terms : List (List Terms))
     (made : TermsOf tariffCap tariffGain tariffPay freeCap jointGain n m terms) where
   -- the square of terms makes the same ticket as the five squares
-  terms-same : SameTicket (ticket n m growerHours pilotHours terms) (ticketIn n m growerHours pilotHours tariffCap tariffGain tariffPay freeCap jointGain)
+  terms-same : SameTicket (ticket n m growerHours pilotHours terms)
+      (ticketIn n m growerHours pilotHours tariffCap tariffGain tariffPay freeCap jointGain)
   terms-same = record {
     growers = refl;
     pilots = refl;
@@ -40,7 +41,8 @@ module _ (n m : ℕ) (growerHours pilotHours : List ℕ) (tariffCap tariffGain t
   module _ {prices : List ℕ} {held : List (List Agreed)} {shift : ℕ} {tariffBefore freeBefore tariffHours freeDealHours pay : Grid} where
     pub flown-sound : Ended (ticket n m growerHours pilotHours terms) prices held → GoodShift (ticket 0 m [] [] []) (line prices) shift →
         Flown held prices shift n m tariffBefore freeBefore tariffHours freeDealHours pay →
-        Sound (ticketIn n m growerHours pilotHours tariffCap tariffGain tariffPay freeCap jointGain) (settlementIn tariffHours freeDealHours pay)
+        Sound (ticketIn n m growerHours pilotHours tariffCap tariffGain tariffPay freeCap jointGain)
+        (settlementIn tariffHours freeDealHours pay)
     flown-sound end g f =
         sound-same terms-same (record { hours = hours; pay = f .payIn .inner })
         (sound (end .live .inv) (record { small = g .small; apart = g .apart }) (end .done))
@@ -49,8 +51,10 @@ module _ (n m : ℕ) (growerHours pilotHours : List ℕ) (tariffCap tariffGain t
         hours Tariff = f .tariffHoursIn .inner
         hours Free = f .freeDealHoursIn .inner
 
-pub flown-beyond : {n m : ℕ} {prices : List ℕ} {held : List (List Agreed)} {shift : ℕ} {tariffBefore freeBefore tariffHours freeDealHours pay : Grid} →
-    Flown held prices shift n m tariffBefore freeBefore tariffHours freeDealHours pay → Beyond n m tariffBefore freeBefore tariffHours freeDealHours pay
+pub flown-beyond : {n m : ℕ} {prices : List ℕ} {held : List (List Agreed)} {shift : ℕ}
+    {tariffBefore freeBefore tariffHours freeDealHours pay : Grid} →
+    Flown held prices shift n m tariffBefore freeBefore tariffHours freeDealHours pay →
+    Beyond n m tariffBefore freeBefore tariffHours freeDealHours pay
 flown-beyond f = record {
   tariffHoursKept = f .tariffHoursIn .outer;
   freeDealHoursKept = f .freeDealHoursIn .outer;

@@ -91,7 +91,8 @@ module _ (t : Ticket) (prices : List ℕ) (held : List (List Agreed)) (fit : Fit
   below = below-top t (line prices) i j topPrice d
       (omega (arith, fit .tariffPay i j)) (omega (arith, fit .jointGain i j)) (want .taken)
 
-  pub raised : (prices′ : List ℕ) (held′ : List (List Agreed)) → prices′ ≡ set prices j (getD prices j 0 + 1) → Aged held held′ j (t .growers) →
+  pub raised : (prices′ : List ℕ) (held′ : List (List Agreed)) → prices′ ≡ set prices j (getD prices j 0 + 1) →
+      Aged held held′ j (t .growers) →
       Raised t (line prices) (line prices′) (heldIn held) (heldIn held′) j
   raised prices′ held′ e ag = raised-of
       (record {

@@ -13,7 +13,8 @@ use Rattle.method.specs.Changes.{Full, Aged}
 use Rattle.method.specs.Jumps.{among, GrowersBear, PilotsBear, RaisedMarked}
 
 -- a jump that lifts pilot j and that all bear, by the hours that pilots have free; no hour is changed
-pub record Jumps (t : Ticket) (free : ℕ → ℕ) (prices : List ℕ) (held : List (List Agreed)) (prices′ : List ℕ) (held′ : List (List Agreed)) (j : ℕ) : Type 0 where
+pub record Jumps (t : Ticket) (free : ℕ → ℕ) (prices : List ℕ) (held : List (List Agreed)) (prices′ : List ℕ)
+    (held′ : List (List Agreed)) (j : ℕ) : Type 0 where
   pub marks : List Bool
   pub by : ℕ
   pub some : 0 < by
@@ -24,7 +25,8 @@ pub record Jumps (t : Ticket) (free : ℕ → ℕ) (prices : List ℕ) (held : L
   pub same : held′ ≡ held
 
 -- pilot j's price is one higher, and the pilot's new hours are old
-pub record OneMore (t : Ticket) (prices : List ℕ) (held : List (List Agreed)) (prices′ : List ℕ) (held′ : List (List Agreed)) (j : ℕ) : Type 0 where
+pub record OneMore (t : Ticket) (prices : List ℕ) (held : List (List Agreed)) (prices′ : List ℕ)
+    (held′ : List (List Agreed)) (j : ℕ) : Type 0 where
   pub price : prices′ ≡ set prices j (getD prices j 0 + 1)
   pub aged : Aged held held′ j (t .growers)
   pub full : Full held′

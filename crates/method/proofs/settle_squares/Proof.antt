@@ -14,7 +14,8 @@ use Rattle.method.proofs.settle_squares.Statement.{statement}
 use Rattle.method.proofs.settle_squares.Tie as tie
 
 the-ticket-fits : (c : tie.After-terms-square) → let a = c .before .before .before .args in
-    Fit (ticket (c .before .before .within .result) (c .before .within2 .result) (a .grower-hours) (a .pilot-hours) (c .terms-square .result))
+    Fit (ticket (c .before .before .within .result) (c .before .within2 .result) (a .grower-hours) (a .pilot-hours)
+    (c .terms-square .result))
 the-ticket-fits c =
     let a = c .before .before .before .args in
     fits _ _ (a .grower-hours) (a .pilot-hours) (c .terms-square .result) _ (omega arith) (omega arith) (c .terms-square .ok)
@@ -23,7 +24,8 @@ run-requires : tie.Need-run-requires
 run-requires c κs = (the-ticket-fits (c .before .before), c .before .zero-prices .ensures)
 
 the-shift-is-good : (c : tie.After-rounding) → let a = c .before in
-    GoodShift (ticket 0 (a .before .before .before .before .within2 .result) [] [] []) (line (a .run .last .1 .1 .1 .1 .1 .0)) (c .rounding .result)
+    GoodShift (ticket 0 (a .before .before .before .before .within2 .result) [] [] []) (line (a .run .last .1 .1 .1 .1 .1 .0))
+    (c .rounding .result)
 the-shift-is-good c = found-good (c .before .run .last .1 .1 .1 .1 .1 .0) _ _ (omega arith) (c .rounding .ensures)
 
 write-flown-requires : tie.Need-write-flown-requires

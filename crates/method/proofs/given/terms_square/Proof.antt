@@ -12,14 +12,16 @@ use Rattle.method.proofs.given.terms_square.Tie as tie
 
 abbrev Inv-loop2 : tie.InvT-loop2
 Inv-loop2 growers pilots tariff-cap tariff-gain tariff-pay free-cap joint-gain square₀ i j₀ square j =
-    (j ≤ pilots) × MadeTo noTerms (λ a b terms. terms ≡ termsFrom tariff-cap tariff-gain tariff-pay free-cap joint-gain a b) pilots i j square
+    (j ≤ pilots) ×
+    MadeTo noTerms (λ a b terms. terms ≡ termsFrom tariff-cap tariff-gain tariff-pay free-cap joint-gain a b) pilots i j square
 
 abbrev μ-loop2 : tie.MeasureT-loop2
 μ-loop2 growers pilots tariff-cap tariff-gain tariff-pay free-cap joint-gain square₀ i j₀ square j = pilots - j
 
 abbrev Inv-loop : tie.InvT-loop
 Inv-loop growers pilots tariff-cap tariff-gain tariff-pay free-cap joint-gain square₀ i₀ square i =
-    (i ≤ growers) × MadeTo noTerms (λ a b terms. terms ≡ termsFrom tariff-cap tariff-gain tariff-pay free-cap joint-gain a b) pilots i 0 square
+    (i ≤ growers) ×
+    MadeTo noTerms (λ a b terms. terms ≡ termsFrom tariff-cap tariff-gain tariff-pay free-cap joint-gain a b) pilots i 0 square
 
 abbrev μ-loop : tie.MeasureT-loop
 μ-loop growers pilots tariff-cap tariff-gain tariff-pay free-cap joint-gain square₀ i₀ square i = growers - i
@@ -31,7 +33,9 @@ loop2-holds : tie.Need-loop2-holds Inv-loop2 μ-loop2 Inv-loop μ-loop
 loop2-holds c = (omega arith, c .before .loop .inv .1)
 
 loop2-again : tie.Need-loop2-again Inv-loop2 μ-loop2 Inv-loop μ-loop
-loop2-again c = (omega arith, made-cell _ _ _ _ _ _ _ (omega arith) (omega arith) refl (c .before .before .before .before .before .before .loop2 .inv .1))
+loop2-again c =
+    let row = c .before .before .before in
+    (omega arith, made-cell _ _ _ _ _ _ _ (omega arith) (omega arith) refl (row .before .before .before .loop2 .inv .1))
 
 loop-again : tie.Need-loop-again Inv-loop2 μ-loop2 Inv-loop μ-loop
 loop-again c = (omega arith, made-row _ _ _ _ _ _ (omega arith) (c .before .loop2 .inv .1))

@@ -6,16 +6,28 @@ use Rattle.method.proofs.requests.room.Statement.{statement}
 use Rattle.method.proofs.requests.room.Tie as tie
 
 sub-result : tie.Need-sub-result
-sub-result c = let h = rw (c .before .before .enum-told .given .1) at (c .before .before .before .before .pre) in omega arith
+sub-result c =
+    let told = c .before .before in
+    let h = rw (told .enum-told .given .1) at (told .before .before .pre) in
+    omega arith
 
 sub-result-2 : tie.Need-sub-result-2
-sub-result-2 c = let h = rw (c .before .before .before .enum-told2 .given .1) at (c .before .before .before .before .before .pre) in omega arith
+sub-result-2 c =
+    let told = c .before .before .before in
+    let h = rw (told .enum-told2 .given .1) at (told .before .before .pre) in
+    omega arith
 
 returns : tie.Need-returns
-returns c = let h = rw (c .before .before .enum-told .given .1) at (c .before .before .before .before .pre) in rw (c .before .before .enum-told .given .1) (omega arith)
+returns c =
+    let told = c .before .before in
+    let h = rw (told .enum-told .given .1) at (told .before .before .pre) in
+    rw (told .enum-told .given .1) (omega arith)
 
 returns-2 : tie.Need-returns-2
-returns-2 c = let h = rw (c .before .before .before .enum-told2 .given .1) at (c .before .before .before .before .before .pre) in rw (c .before .before .before .enum-told2 .given .1) (omega arith)
+returns-2 c =
+    let told = c .before .before .before in
+    let h = rw (told .enum-told2 .given .1) at (told .before .before .pre) in
+    rw (told .enum-told2 .given .1) (omega arith)
 
 pub room-spec : {M : Type 1} → statement M
 room-spec =

@@ -14,13 +14,15 @@ use Rattle.method.proofs.rises.rise.Statement.{statement}
 use Rattle.method.proofs.rises.rise.Tie as tie
 
 abbrev Inv-loop : tie.InvT-loop
-Inv-loop growers pilots free price j terms held marks₀ i₀ same₀ step₀ marks i same step = (0 < growers → i < growers) × (same ≤ 16) × (step ≤ 256)
+Inv-loop growers pilots free price j terms held marks₀ i₀ same₀ step₀ marks i same step =
+    (0 < growers → i < growers) × (same ≤ 16) × (step ≤ 256)
 
 abbrev μ-loop : tie.MeasureT-loop
 μ-loop growers pilots free price j terms held marks₀ i₀ same₀ step₀ marks i same step = 256 - step
 
 abbrev Inv-loop2 : tie.InvT-loop2
-Inv-loop2 growers pilots price j terms held marks i same by₀ k₀ by k = (k ≤ growers) × (by ≤ by₀) × GrowersBear (ticket growers pilots [] [] terms) (among marks) (line price) (heldIn held) k by
+Inv-loop2 growers pilots price j terms held marks i same by₀ k₀ by k =
+    (k ≤ growers) × (by ≤ by₀) × GrowersBear (ticket growers pilots [] [] terms) (among marks) (line price) (heldIn held) k by
 
 abbrev μ-loop2 : tie.MeasureT-loop2
 μ-loop2 growers pilots price j terms held marks i same by₀ k₀ by k = growers - k
@@ -45,7 +47,9 @@ array-copy-out-tie-in-2 : tie.Need-array-copy-out-tie-in-2 Inv-loop μ-loop Inv-
 array-copy-out-tie-in-2 c = omega (arith, grower (c .before), c .before .before .before .before .before .pre .0 .1)
 
 following-requires : tie.Need-following-requires Inv-loop μ-loop Inv-loop2 μ-loop2
-following-requires c κs = (grower (c .before .before .before .before .before .before), c .before .before .before .before .before .before .before .before .before .before .pre .0 .1)
+following-requires c κs =
+    let turn = c .before .before .before .before .before .before in
+    (grower turn, turn .before .before .before .before .pre .0 .1)
 
 loop-again : tie.Need-loop-again Inv-loop μ-loop Inv-loop2 μ-loop2
 loop-again c = (λ _. c .following .ensures .0, ⊎-elim (λ w. omega arith) (λ w. omega arith) (c .before .if2 .came), search needs)
@@ -57,7 +61,8 @@ loop2-again : tie.Need-loop2-again Inv-loop μ-loop Inv-loop2 μ-loop2
 loop2-again c = let a = c .before .before .before .before .before .before .before .before .before .before .before .args in
     let l = c .before .before .before .before .before .loop2 in
     let e = c .row-slack .ensures in
-    (search needs, omega (arith, e .0, l .inv .1), growers-more (a .growers) (a .pilots) (a .t4) (a .t6) _ _ (l .k) _ _ (e .0) (e .1) (l .inv .2))
+    let bear = growers-more (a .growers) (a .pilots) (a .t4) (a .t6) _ _ (l .k) _ _ (e .0) (e .1) (l .inv .2) in
+    (search needs, omega (arith, e .0, l .inv .1), bear)
 
 -- what the marked pilots bear
 pilots-bear : (c : tie.At-loop2 Inv-loop μ-loop Inv-loop2 μ-loop2) → let a = c .before .before .before .before .before .before .args in
@@ -66,7 +71,8 @@ pilots-bear c = pilots-less _ _ _ _ _ _ (c .loop2 .inv .1) (c .before .pilots-sl
 
 raise-marked-requires : tie.Need-raise-marked-requires Inv-loop μ-loop Inv-loop2 μ-loop2
 raise-marked-requires c κs = let p = c .before .before .before .before .before .before .before .before .before .before .pre in
-    let below = pilots-bear (c .before .before .before .before) .below _ (c .before .before .if3 .taken) (le-refl _) _ (p .0 .3) (c .before .if4 .taken) in
+    let bear = pilots-bear (c .before .before .before .before) in
+    let below = bear .below _ (c .before .before .if3 .taken) (le-refl _) _ (p .0 .3) (c .before .if4 .taken) in
     ((p .0 .2, omega (arith, below)), p .1 .0)
 
 returns : tie.Need-returns Inv-loop μ-loop Inv-loop2 μ-loop2
@@ -83,10 +89,14 @@ returns c = let l = c .before .before .before .before .before .loop2 in
     })
 
 raise-price-requires : tie.Need-raise-price-requires Inv-loop μ-loop Inv-loop2 μ-loop2
-raise-price-requires c κs = let p = c .before .before .before .before .before .before .before .before .before .pre in (omega (arith, p .0 .2, p .0 .3), p .1 .0 _ (p .0 .3))
+raise-price-requires c κs =
+    let p = c .before .before .before .before .before .before .before .before .before .pre in
+    (omega (arith, p .0 .2, p .0 .3), p .1 .0 _ (p .0 .3))
 
 age-requires : tie.Need-age-requires Inv-loop μ-loop Inv-loop2 μ-loop2
-age-requires c κs = let p = c .before .before .before .before .before .before .before .before .before .before .pre in ((p .0 .0, p .0 .1, omega (arith, p .0 .2, p .0 .3)), p .1 .1)
+age-requires c κs =
+    let p = c .before .before .before .before .before .before .before .before .before .before .pre in
+    ((p .0 .0, p .0 .1, omega (arith, p .0 .2, p .0 .3)), p .1 .1)
 
 returns-2 : tie.Need-returns-2 Inv-loop μ-loop Inv-loop2 μ-loop2
 returns-2 c = inr (record { price = c .before .raise-price .ensures; aged = c .age .ensures .1; full = c .age .ensures .0 })

@@ -1,326 +1,288 @@
--- `method::turns::run` meets its contract.
+-- `method::turns::run` meets its contract. What a turn does is said by the laws of `TurnSteps`, and what holds between turns by those of
+-- `Rounds`; here they get the facts that the code's places know.
 -- Assumes nothing.
 use Prim.Native.Nat.{ℕ, _-_, _≤_, _<_}
 use mathlib.Core.Path.{_≡_, refl, sym, _∙_}
 use mathlib.Core.List.{List}
-use mathlib.Core.Logic.{⊎-elim}
 use native.Mathlib.Omega.{arith}
+use lib.ListN.{set}
 use Rattle.market.specs.declared.Deal.the-variants.{Free}
-use Rattle.market.specs.Method.{slotFor}
-use Rattle.market.specs.Steps.{Added}
-use Rattle.market.proofs.Adding.{never-less}
-use Rattle.market.proofs.Steps.{raised-used}
-use Rattle.method.specs.declared.Request.the-variants.{Hours}
+use Rattle.market.specs.Market.{Ticket}
 use Rattle.offers.specs.declared.Agreed.{Agreed}
+use Rattle.method.specs.declared.Request.{Request}
+use Rattle.method.specs.declared.Request.the-variants.{Content}
 use Rattle.method.specs.View.{line, ticket, heldIn}
-use Rattle.method.specs.State.{FreeHours, Turned}
 use Rattle.method.specs.Choice.{Asks}
-use Rattle.method.specs.LateHours.{lateSlot, HasLate}
-use Rattle.method.specs.Changes.{Full, putCell}
+use Rattle.method.specs.LateHours.{HasLate}
+use Rattle.method.specs.Changes.{putCell}
 use Rattle.method.proofs.Asking.{asks-in}
-use Rattle.method.proofs.LateSearch.{NoneLate, none-late-start, none-late-more, no-late-hour, late-hours-found}
-use Rattle.method.proofs.HourChanges.{put-more, put-fewer}
-use Rattle.method.proofs.TurnLaws.{hours-fit, room-fits, turn-add, turn-move, turn-raise, raised, live-start}
-use Rattle.method.proofs.PilotHours.{free-start, free-added, free-moved, free-kept}
-use Rattle.method.proofs.Rounds.{Working, left, work-starts, next-grower, work-ends, left-less}
-use Rattle.method.proofs.JumpTurns.{turn-jump}
+use Rattle.method.proofs.LateSearch.{NoneLate, none-late-start, none-late-more, late-hours-found}
+use Rattle.method.proofs.TurnLaws.{hours-fit, live-start}
+use Rattle.method.proofs.PilotHours.{free-start}
+use Rattle.method.proofs.Rounds.{Working, left, work-starts, next-grower, work-ends}
+use Rattle.method.proofs.TurnSteps.{Turn, Over, as-told, turn-begins, pilot-within, hours-fit-cell, free-given}
+use Rattle.method.proofs.TurnSteps.{turn-still, none-late-still, late-there, late-given, price-risen}
 use borrow.Author.Needs.{needs}
 use Rattle.method.proofs.turns.run.Statement.{statement}
 use Rattle.method.proofs.turns.run.Tie as tie
 
 abbrev Inv-turns : tie.InvT-turns
-Inv-turns growers pilots price₀ grower-hours terms held₀ pilot-hours i₀ k₀ price held free i k = Working (ticket growers pilots grower-hours pilot-hours terms) price held free i k
+Inv-turns growers pilots price₀ grower-hours terms held₀ pilot-hours i₀ k₀ price held free i k =
+    Working (ticket growers pilots grower-hours pilot-hours terms) price held free i k
 
 abbrev μ-turns : tie.MeasureT-turns
-μ-turns growers pilots price₀ grower-hours terms held₀ pilot-hours i₀ k₀ price held free i k = left (ticket growers pilots grower-hours pilot-hours terms) price held k
+μ-turns growers pilots price₀ grower-hours terms held₀ pilot-hours i₀ k₀ price held free i k =
+    left (ticket growers pilots grower-hours pilot-hours terms) price held k
 
 abbrev Inv-loop : tie.InvT-loop
-Inv-loop growers pilots price grower-hours terms held₀ free i k j deal most unused giver₀ held giver = (held ≡ held₀) × (giver ≤ growers) × NoneLate terms (line price j) held₀ j giver
+Inv-loop growers pilots price grower-hours terms held₀ free i k j deal most unused giver₀ held giver =
+    (held ≡ held₀) × (giver ≤ growers) × NoneLate terms (line price j) held₀ j giver
 
 abbrev μ-loop : tie.MeasureT-loop
 μ-loop growers pilots price grower-hours terms held₀ free i k j deal most unused giver₀ held giver = growers - giver
 
--- places of a turn, each by a later one: its start; what the grower asked for; the search for late hours; late hours found
-abbrev turn-of : tie.After-asked Inv-loop μ-loop Inv-turns μ-turns → tie.In-turns Inv-loop μ-loop Inv-turns μ-turns
-turn-of c = c .before .before .before .before .before .before
+-- a place of the code, or what is to be shown there, with these invariants
+abbrev here : (tie.InvT-loop → tie.MeasureT-loop → tie.InvT-turns → tie.MeasureT-turns → Type 0) → Type 0
+here place = place Inv-loop μ-loop Inv-turns μ-turns
 
-abbrev asked-in : tie.At-loop Inv-loop μ-loop Inv-turns μ-turns → tie.After-asked Inv-loop μ-loop Inv-turns μ-turns
-asked-in c = c .before .before .before
+-- Earlier places; `a-b` is b, seen from a.
+-- the start of the function; the turn, from the call of `request`, its answer, hours asked for, and nothing asked for
+abbrev start-of : here tie.In-turns → here tie.Start
+start-of c = c .before .before .before
 
-abbrev search-of : tie.After-late Inv-loop μ-loop Inv-turns μ-turns → tie.At-loop Inv-loop μ-loop Inv-turns μ-turns
-search-of c = c .before .before .before .before .before .before .before
+abbrev call-turn : here tie.After-request-arg3 → here tie.In-turns
+call-turn c = c .before .before .before
 
-abbrev late-of : tie.After-more2 Inv-loop μ-loop Inv-turns μ-turns → tie.After-late Inv-loop μ-loop Inv-turns μ-turns
-late-of c = c .before .before .before .before
+abbrev answer-turn : here tie.After-request → here tie.In-turns
+answer-turn c = call-turn (c .before)
 
--- the grower who is asked
-grower : (c : tie.In-turns Inv-loop μ-loop Inv-turns μ-turns) → c .before .turns .i < c .before .before .before .args .growers
+abbrev asked-turn : here tie.After-asked → here tie.In-turns
+asked-turn c = answer-turn (c .before .before)
+
+abbrev content-turn : here tie.After-following → here tie.In-turns
+content-turn c = answer-turn (c .before .before .before)
+
+-- what was asked for, from free hours counted and given, and from the search for late hours
+abbrev counted-asked : here tie.After-fewest → here tie.After-asked
+counted-asked c = c .before .before .before
+
+abbrev given-asked : here tie.After-more → here tie.After-asked
+given-asked c = counted-asked (c .before .before)
+
+abbrev search-asked : here tie.At-loop → here tie.After-asked
+search-asked c = c .before .before .before
+
+-- the grower whose hours are looked at, from the call of `late_here`, late hours found, and none found; the search
+abbrev call-giver : here tie.After-late-here-arg3 → here tie.In-loop
+call-giver c = c .before .before .before
+
+abbrev late-giver : here tie.After-late → here tie.In-loop
+late-giver c = call-giver (c .before .before .before)
+
+abbrev none-giver : here tie.After-enum-told2 → here tie.In-loop
+none-giver c = call-giver (c .before .before .before)
+
+abbrev late-search : here tie.After-late → here tie.At-loop
+late-search c = late-giver c .before
+
+-- the late hours found, from them counted, given and taken
+abbrev counted-late : here tie.After-fewest2 → here tie.After-late
+counted-late c = c .before .before
+
+abbrev given-late : here tie.After-more2 → here tie.After-late
+given-late c = counted-late (c .before .before)
+
+abbrev taken-late : here tie.After-fewer → here tie.After-late
+taken-late c = given-late (c .before .before)
+
+-- the search, from the price that rose after it
+abbrev risen-search : here tie.After-rise → here tie.At-loop
+risen-search c = c .before .before .before
+
+-- the ticket; what is asked for in a turn; what is left to do when it begins; the turn with these held hours; its end
+abbrev ticket-of : here tie.Start → Ticket
+ticket-of c = ticket (c .args .growers) (c .args .pilots) (c .args .t3) (c .args .pilot-hours) (c .args .t5)
+
+abbrev AsksIn : here tie.In-turns → Request → Type 0
+AsksIn c asked =
+    let l = c .before .turns in
+    Asks (ticket-of (start-of c)) (line (l .price)) (heldIn (l .held)) (l .i) asked
+
+abbrev todo : here tie.In-turns → ℕ
+todo c =
+    let l = c .before .turns in
+    left (ticket-of (start-of c)) (l .price) (l .held) (l .k)
+
+abbrev TurnWith : here tie.After-asked → List (List Agreed) → Type 0
+TurnWith c held =
+    let turn = asked-turn c in
+    let l = turn .before .turns in
+    let asked = c .asked .given .0 in
+    Turn (ticket-of (start-of turn)) (l .price) held (l .free) (l .i) (l .k) (asked .0) (asked .1 .0) (asked .1 .1 .0) (todo turn)
+
+abbrev OverWith : here tie.After-asked → List ℕ → List (List Agreed) → List ℕ → Type 0
+OverWith c prices held free =
+    let turn = asked-turn c in
+    Over (ticket-of (start-of turn)) prices held free (turn .before .turns .i) (todo turn)
+
+-- Starting: nobody holds an hour.
+turns-holds : here tie.Need-turns-holds
+turns-holds c =
+    let s = c .before in
+    let z = c .no-hours .ensures in
+    work-starts _ _ _ _ 0 (λ h. h)
+    (live-start _ _ _ (s .pre .0) (s .pre .1 .1) (z .1) (s .pre .1 .0) (z .0))
+    (free-start _ _ (s .args .pilot-hours) (s .good .1 .1 .1 .0 .1 .0 .1) (λ j. refl) (z .1))
+
+-- Asking: the grower whose turn it is, and his answer.
+grower : (c : here tie.In-turns) → c .before .turns .i < start-of c .args .growers
 grower c = c .before .turns .inv .start (omega arith)
 
-grower-small : (c : tie.In-turns Inv-loop μ-loop Inv-turns μ-turns) → c .before .turns .i < 16
-grower-small c = omega (arith, grower c, c .before .before .before .pre .0 .growers)
+grower-small : (c : here tie.In-turns) → c .before .turns .i < 16
+grower-small c = omega (arith, grower c, start-of c .pre .0 .growers)
 
--- what the grower asks for
-asks : (c : tie.After-request Inv-loop μ-loop Inv-turns μ-turns) → let turn = c .before .before .before .before in
-    let a = turn .before .before .before .args in
+asks : (c : here tie.After-request) (told : Request) → c .request .result ≡ told → AsksIn (answer-turn c) told
+asks c told e =
+    let turn = answer-turn c in
+    let a = start-of turn .args in
     let l = turn .before .turns in
-    Asks (ticket (a .growers) (a .pilots) (a .t3) (a .pilot-hours) (a .t5)) (line (l .price)) (heldIn (l .held)) (turn .before .turns .i) (c .request .result)
-asks c = let turn = c .before .before .before .before in
-    let a = turn .before .before .before .args in
-    let l = turn .before .turns in
-    asks-in (a .growers) (a .pilots) (turn .before .turns .i) (a .t3) (a .pilot-hours) (a .t5) (l .price) (l .held) (grower turn) (c .request .result) (c .request .ensures)
+    let r = c .request .result in
+    as-told (ticket-of (start-of turn)) (line (l .price)) (l .held) (l .i) r told e
+    (asks-in (a .growers) (a .pilots) (l .i) (a .t3) (a .pilot-hours) (a .t5) (l .price) (l .held) (grower turn) r (c .request .ensures))
 
-want : (c : tie.After-asked Inv-loop μ-loop Inv-turns μ-turns) → let turn = turn-of c in
-    let a = turn .before .before .before .args in
-    let l = turn .before .turns in
-    let g = c .asked .given .0 in
-    Asks (ticket (a .growers) (a .pilots) (a .t3) (a .pilot-hours) (a .t5)) (line (l .price)) (heldIn (l .held)) (turn .before .turns .i) (Hours (g .0) (g .1 .0) (g .1 .1 .0))
-want c = rw (c .asked .given .1) at (asks (c .before .before))
+turn-asked : (c : here tie.After-asked) → TurnWith c (asked-turn c .before .turns .held)
+turn-asked c =
+    let turn = asked-turn c in
+    turn-begins _ _ _ _ _ _ _ _ _ (start-of turn .pre .0) (turn .before .turns .inv) (asks (c .before .before) _ (c .asked .given .1))
 
-pilot-small : (c : tie.After-asked Inv-loop μ-loop Inv-turns μ-turns) → c .asked .given .0 .0 < 16
-pilot-small c = let turn = turn-of c in
-    omega (arith, want c .0 .pilot, turn .before .before .before .pre .0 .pilots)
+pilot-small : (c : here tie.After-asked) → c .asked .given .0 .0 < 16
+pilot-small c = pilot-within (turn-asked c)
 
--- the turn, with free hours
-added : (c : tie.After-more Inv-loop μ-loop Inv-turns μ-turns) → let ask = c .before .before .before .before .before in
-    let turn = turn-of ask in
-    let l = turn .before .turns in
-    let g = ask .asked .given .0 in
-    Full (putCell (l .held) (turn .before .turns .i) (g .0) (c .more .result)) ×
-    Added (heldIn (l .held)) (heldIn (putCell (l .held) (turn .before .turns .i) (g .0) (c .more .result))) (slotFor (g .1 .0)) (turn .before .turns .i) (g .0) (c .before .before .fewest .result)
-added c = let ask = c .before .before .before .before .before in
-    let turn = turn-of ask in
-    let l = turn .before .turns in
-    put-more _ (l .inv .live .full) _ _ _ (grower-small turn) (pilot-small ask) _ _ _ refl (c .more .ensures)
+request-requires : here tie.Need-request-requires
+request-requires c κs = start-of (call-turn c) .pre .0 .pilots
 
-turned-add : (c : tie.After-more Inv-loop μ-loop Inv-turns μ-turns) → let ask = c .before .before .before .before .before in
-    let turn = turn-of ask in
-    let a = turn .before .before .before .args in
-    let l = turn .before .turns in
-    let g = ask .asked .given .0 in
-    Turned (ticket (a .growers) (a .pilots) (a .t3) (a .pilot-hours) (a .t5)) (l .price) (l .held) (l .price) (putCell (l .held) (turn .before .turns .i) (g .0) (c .more .result))
-turned-add c = let ask = c .before .before .before .before .before in
-    let turn = turn-of ask in
-    let l = turn .before .turns in
-    let w = want ask in
-    let e = c .before .before .fewest .ensures in
-    turn-add _ _ _ (turn .before .before .before .pre .0) (l .inv .live) _ _ _ (w .0) _ _ (e .2 (w .1 .some) (c .before .before .before .if1 .taken))
-    (omega (arith, e .0, w .1 .room)) (omega (arith, e .0, w .1 .free)) (omega (arith, e .1, l .inv .hours .each _ (w .0 .pilot))) (added c)
+following-requires : here tie.Need-following-requires
+following-requires c κs = let turn = answer-turn (c .before .before) in (grower turn, start-of turn .pre .0 .growers)
 
--- the search for late hours leaves all as it is
-still : (c : tie.At-loop Inv-loop μ-loop Inv-turns μ-turns) → let turn = c .before .before .before .before .before .before .before .before .before in
-    let a = turn .before .before .before .args in
-    let l = turn .before .turns in
-    Working (ticket (a .growers) (a .pilots) (a .t3) (a .pilot-hours) (a .t5)) (l .price) (c .loop .held) (l .free) (l .i) (l .k)
-still c = let turn = c .before .before .before .before .before .before .before .before .before in
-    rw (c .loop .inv .0) (turn .before .turns .inv)
+add-k : here tie.Need-add-k
+add-k c = let turn = content-turn c in omega (arith, turn .turns-test .taken, start-of turn .pre .0 .growers)
 
-still-want : (c : tie.At-loop Inv-loop μ-loop Inv-turns μ-turns) → let ask = c .before .before .before in
-    let turn = ask .before .before .before .before .before .before in
-    let a = turn .before .before .before .args in
-    let l = turn .before .turns in
-    let g = ask .asked .given .0 in
-    Asks (ticket (a .growers) (a .pilots) (a .t3) (a .pilot-hours) (a .t5)) (line (l .price)) (heldIn (c .loop .held)) (l .i) (Hours (g .0) (g .1 .0) (g .1 .1 .0))
-still-want c = let ask = c .before .before .before in
-    rw (c .loop .inv .0) (want ask)
+turns-less : here tie.Need-turns-less
+turns-less c = omega (arith, content-turn c .turns-test .taken)
 
--- late hours of the pilot
-late : (c : tie.After-late Inv-loop μ-loop Inv-turns μ-turns) → let search-at = search-of c in
-    let ask = asked-in search-at in
-    let turn = turn-of ask in
-    let a = turn .before .before .before .args in
-    let l = turn .before .turns in
-    let g = ask .asked .given .0 in
-    let h = c .late .given .0 in
-    HasLate (ticket (a .growers) (a .pilots) (a .t3) (a .pilot-hours) (a .t5)) (line (l .price)) (heldIn (search-at .loop .held)) (h .0) (search-at .loop .giver) (g .0) (h .1 .0)
-late c = let search-at = search-of c in
-    let ask = asked-in search-at in
-    let turn = turn-of ask in
-    let a = turn .before .before .before .args in
-    let l = turn .before .turns in
-    let h = c .late .given .0 in
-    late-hours-found (a .growers) (a .pilots) (a .t3) (a .pilot-hours) (a .t5) (l .price) (search-at .loop .held) (ask .asked .given .0 .0) (search-at .loop .giver) (h .0) (h .1 .0)
-    (c .before .before .before .before .before .before .loop-test .taken)
-    (sym (c .late .given .1) ∙ c .before .before .late-here .ensures)
-
-giver-small : (c : tie.In-loop Inv-loop μ-loop Inv-turns μ-turns) → let search-at = c .before in
-    search-at .loop .giver < 16
-giver-small c = let turn = turn-of (asked-in (c .before)) in
-    omega (arith, c .loop-test .taken, turn .before .before .before .pre .0 .growers)
-
--- the turn, with late hours given up
-put : (c : tie.After-more2 Inv-loop μ-loop Inv-turns μ-turns) → let search-at = search-of (late-of c) in
-    let ask = asked-in search-at in
-    let turn = turn-of ask in
-    let l = turn .before .turns in
-    let g = ask .asked .given .0 in
-    let after = putCell (search-at .loop .held) (l .i) (g .0) (c .more2 .result) in
-    Full after × Added (heldIn (search-at .loop .held)) (heldIn after) (slotFor (g .1 .0)) (l .i) (g .0) (c .before .before .fewest2 .result)
-put c = let search-at = search-of (late-of c) in
-    let ask = asked-in search-at in
-    let turn = turn-of ask in
-    put-more _ (still search-at .live .full) _ _ _ (grower-small turn) (pilot-small ask) _ _ _ refl (c .more2 .ensures)
-
-swapped : (c : tie.After-fewer Inv-loop μ-loop Inv-turns μ-turns) → let search-at = search-of (late-of (c .before .before)) in
-    let ask = asked-in search-at in
-    let turn = turn-of ask in
-    let a = turn .before .before .before .args in
-    let l = turn .before .turns in
-    let g = ask .asked .given .0 in
-    let t = ticket (a .growers) (a .pilots) (a .t3) (a .pilot-hours) (a .t5) in
-    let after = putCell (putCell (search-at .loop .held) (l .i) (g .0) (c .before .before .more2 .result)) (search-at .loop .giver) (g .0) (c .fewer .result) in
-    Turned t (l .price) (search-at .loop .held) (l .price) after × FreeHours t after (l .free)
-swapped c = let search-at = search-of (late-of (c .before .before)) in
-    let ask = asked-in search-at in
-    let turn = turn-of ask in
-    let s = still search-at in
-    let w = still-want search-at in
-    let d = ask .asked .given .0 .1 .0 in
-    let given = c .before .before .before .before .before .before .late .given .0 .0 in
-    let between = putCell (search-at .loop .held) (turn .before .turns .i) (ask .asked .given .0 .0) (c .before .before .more2 .result) in
-    let v = late (c .before .before .before .before .before .before) in
-    let e = c .before .before .before .before .fewest2 .ensures in
-    let p = put (c .before .before) in
-    let q = put-fewer _ (p .0) _ _ _ (giver-small (c .before .before .before .before .before .before .before .before .before .before .before .before)) (pilot-small ask) _ _ _ refl (c .fewer .ensures) in (
-      turn-move _ _ _ (turn .before .before .before .pre .0) (s .live) d _ _ (w .0) between _ given _ _ _ (e .2 (w .1 .some) (v .some)) (omega (arith, e .0, w .1 .room)) (omega (arith, e .0, w .1 .free)) v (p .1) q,
-      free-moved _ _ _ _ (s .hours) between (slotFor d) (lateSlot given) _ _ _ _ (w .0 .grower) (v .grower) (p .1) (q .1),
-    )
-
--- the turn, with a price that rose
-risen : (c : tie.After-rise Inv-loop μ-loop Inv-turns μ-turns) → let search-at = c .before .before .before in
-    let turn = search-at .before .before .before .before .before .before .before .before .before in
-    let a = turn .before .before .before .args in
-    let l = turn .before .turns in
-    let t = ticket (a .growers) (a .pilots) (a .t3) (a .pilot-hours) (a .t5) in
-    Turned t (l .price) (search-at .loop .held) (c .rise .last .1 .1 .1 .1 .0) (c .rise .result) × FreeHours t (c .rise .result) (l .free)
-risen c = let search-at = c .before .before .before in
-    let ask = search-at .before .before .before in
-    let turn = ask .before .before .before .before .before .before in
-    let a = turn .before .before .before .args in
-    let l = turn .before .turns in
-    let j = ask .asked .given .0 .0 in
-    let s = still search-at in
-    let w = still-want search-at .0 in
-    let none = no-late-hour (a .growers) (a .pilots) (a .t3) (a .pilot-hours) (a .t5) (l .price) (search-at .loop .held) j (search-at .loop .giver) (omega (arith, c .before .before .loop-test .left))
-    (rw (search-at .loop .inv .0) (search-at .loop .inv .2)) in
-    ⊎-elim
-    (λ jumps. (
-      turn-jump (a .growers) (a .pilots) (a .t3) (a .pilot-hours) (a .t5) (l .price) _ (search-at .loop .held) _ (l .free) j (w .pilot) (s .live) (s .hours) jumps,
-      rw (jumps .same) (s .hours),
-    ))
-    (λ one. (
-      turn-raise _ _ _ (turn .before .before .before .pre .0) (s .live) _ _ _ w _ _ (omega (arith, c .before .before .before .before .if1 .left, s .hours .each j (w .pilot))) none (one .price) (one .aged) (one .full),
-      free-kept _ _ _ _ (s .hours) (raised-used (raised _ _ _ (turn .before .before .before .pre .0) (s .live) _ _ _ w _ _ (one .price) (one .aged))),
-    ))
-    (c .rise .ensures)
-
--- less is left than when the search began
-left-after : (c : tie.At-loop Inv-loop μ-loop Inv-turns μ-turns) (prices : List ℕ) (held : List (List Agreed)) → let turn = c .before .before .before .before .before .before .before .before .before in
-    let a = turn .before .before .before .args in
-    let l = turn .before .turns in
-    let t = ticket (a .growers) (a .pilots) (a .t3) (a .pilot-hours) (a .t5) in
-    Turned t (l .price) (c .loop .held) prices held → left t prices held 0 < left t (l .price) (l .held) (l .k)
-left-after c prices held turned = let turn = c .before .before .before .before .before .before .before .before .before in
-    let a = turn .before .before .before .args in
-    let l = turn .before .turns in
-    left-less (ticket (a .growers) (a .pilots) (a .t3) (a .pilot-hours) (a .t5)) (l .price) (l .held) prices held (l .k) (turn .before .before .before .pre .0 .growers)
-    (rw (sym (c .loop .inv .0)) turned)
-
-turns-holds : tie.Need-turns-holds Inv-loop μ-loop Inv-turns μ-turns
-turns-holds c = let z = c .no-hours .ensures in
-    work-starts _ _ _ _ 0 (λ h. h) (live-start _ _ _ (c .before .pre .0) (c .before .pre .1 .1) (z .1) (c .before .pre .1 .0) (z .0)) (free-start _ _ (c .before .args .pilot-hours) (c .before .good .1 .1 .1 .0 .1 .0 .1) (λ j. refl) (z .1))
-
-request-requires : tie.Need-request-requires Inv-loop μ-loop Inv-turns μ-turns
-request-requires c κs = let turn = c .before .before .before in
-    turn .before .before .before .pre .0 .pilots
-
-add-k : tie.Need-add-k Inv-loop μ-loop Inv-turns μ-turns
-add-k c = let turn = c .before .before .before .before .before .before .before in
-    omega (arith, turn .turns-test .taken, turn .before .before .before .pre .0 .growers)
-
-turns-less : tie.Need-turns-less Inv-loop μ-loop Inv-turns μ-turns
-turns-less c = let turn = c .before .before .before .before .before .before .before in
-    omega (arith, turn .turns-test .taken)
-
-turns-again : tie.Need-turns-again Inv-loop μ-loop Inv-turns μ-turns
-turns-again c = let turn = c .before .before .before .before .before .before .before in
+turns-again : here tie.Need-turns-again
+turns-again c =
+    let turn = content-turn c in
     let e = c .following .ensures in
-    next-grower _ _ _ _ _ _ (turn .before .turns .inv) _ (turn .turns-test .taken) (e .0) (e .1) (e .2) (rw (c .before .enum-told .given .1) at (asks (c .before .before .before)))
+    next-grower _ _ _ _ _ _ (turn .before .turns .inv) _ (turn .turns-test .taken) (e .0) (e .1) (e .2)
+    (asks (c .before .before .before) Content (c .before .enum-told .given .1))
 
-following-requires : tie.Need-following-requires Inv-loop μ-loop Inv-turns μ-turns
-following-requires c κs = let turn = c .before .before .before .before .before .before in
-    (grower turn, turn .before .before .before .pre .0 .growers)
+-- Giving: the pilot has free hours.
+more-requires : here tie.Need-more-requires
+more-requires c κs = hours-fit-cell (turn-asked (counted-asked (c .before))) _ (c .before .fewest .ensures .0)
 
-more-requires : tie.Need-more-requires Inv-loop μ-loop Inv-turns μ-turns
-more-requires c κs = let ask = c .before .before .before .before in
-    let turn = turn-of ask in
-    let w = want ask in
-    room-fits _ (turn .before .turns .held) (ask .asked .given .0 .1 .0) (turn .before .turns .i) (ask .asked .given .0 .0) (c .before .fewest .result) (turn .before .before .before .pre .0) (omega (arith, c .before .fewest .ensures .0, w .1 .room))
-
-sub-free : tie.Need-sub-free Inv-loop μ-loop Inv-turns μ-turns
+sub-free : here tie.Need-sub-free
 sub-free c = omega (arith, c .before .before .fewest .ensures .1)
 
-turns-less-2 : tie.Need-turns-less-2 Inv-loop μ-loop Inv-turns μ-turns
-turns-less-2 c = let turn = turn-of (c .before .before .before .before .before) in
-    left-less _ _ _ _ _ _ (turn .before .before .before .pre .0 .growers) (turned-add c)
+given : (c : here tie.After-more) → let ask = given-asked c in
+    let l = asked-turn ask .before .turns in
+    let j = ask .asked .given .0 .0 in
+    OverWith ask (l .price) (putCell (l .held) (l .i) j (c .more .result))
+    (set (l .free) j (line (l .free) j - c .before .before .fewest .result))
+given c =
+    let counted = c .before .before in
+    free-given (turn-asked (given-asked c)) (counted .fewest .ensures) (c .more .ensures) (counted .before .if1 .taken) refl
 
-turns-again-2 : tie.Need-turns-again-2 Inv-loop μ-loop Inv-turns μ-turns
-turns-again-2 c = let ask = c .before .before .before .before .before in
-    let turn = turn-of ask in
-    let l = turn .before .turns in
-    let w = want ask in
-    work-starts _ _ _ _ _ (λ _. w .0 .grower) (turned-add c .live)
-    (free-added _ _ _ _ (l .inv .hours) _ _ _ _ (w .0 .grower) (pilot-small ask) (c .before .before .fewest .ensures .1) (added c .1))
+turns-less-2 : here tie.Need-turns-less-2
+turns-less-2 c = given c .1
 
-loop-holds : tie.Need-loop-holds Inv-loop μ-loop Inv-turns μ-turns
+turns-again-2 : here tie.Need-turns-again-2
+turns-again-2 c = given c .0
+
+-- Searching late hours: those that are found are given; the search leaves all as it is.
+turn-searching : (c : here tie.At-loop) → TurnWith (search-asked c) (c .loop .held)
+turn-searching c = turn-still (turn-asked (search-asked c)) (c .loop .inv .0)
+
+giver-small : (c : here tie.In-loop) → c .before .loop .giver < 16
+giver-small c = omega (arith, c .loop-test .taken, start-of (asked-turn (search-asked (c .before))) .pre .0 .growers)
+
+loop-holds : here tie.Need-loop-holds
 loop-holds c = (refl, omega arith, none-late-start _ _ _ _)
 
-loop-again : tie.Need-loop-again Inv-loop μ-loop Inv-turns μ-turns
-loop-again c = let search-at = c .before .before .before .before .before .before .before in
-    let v = search-at .loop .inv in
-    (v .0, omega arith, none-late-more _ _ _ _ _ (rw (v .0) at (sym (c .enum-told2 .given .1) ∙ c .before .before .late-here .ensures)) (v .2))
+loop-again : here tie.Need-loop-again
+loop-again c =
+    let v = none-giver c .before .loop .inv in
+    let none = sym (c .enum-told2 .given .1) ∙ c .before .before .late-here .ensures in
+    (v .0, omega arith, none-late-more _ _ _ _ _ (rw (v .0) at none) (v .2))
 
-more-requires-2 : tie.Need-more-requires-2 Inv-loop μ-loop Inv-turns μ-turns
-more-requires-2 c κs = let search-at = search-of (c .before .before .before) in
-    let ask = asked-in search-at in
-    let turn = turn-of ask in
-    let w = still-want search-at in
-    room-fits _ (search-at .loop .held) (ask .asked .given .0 .1 .0) (turn .before .turns .i) (ask .asked .given .0 .0) (c .before .fewest2 .result) (turn .before .before .before .pre .0) (omega (arith, c .before .fewest2 .ensures .0, w .1 .room))
+late : (c : here tie.After-late) → let search-at = late-search c in
+    let ask = search-asked search-at in
+    let turn = asked-turn ask in
+    let found = c .late .given .0 in
+    HasLate (ticket-of (start-of turn)) (line (turn .before .turns .price)) (heldIn (search-at .loop .held))
+    (found .0) (search-at .loop .giver) (ask .asked .given .0 .0) (found .1 .0)
+late c =
+    let search-at = late-search c in
+    let turn = asked-turn (search-asked search-at) in
+    let a = start-of turn .args in
+    late-hours-found (a .growers) (a .pilots) (a .t3) (a .pilot-hours) (a .t5) (turn .before .turns .price) (search-at .loop .held) _ _ _ _
+    (late-giver c .loop-test .taken)
+    (sym (c .late .given .1) ∙ c .before .before .late-here .ensures)
 
-fewer-requires : tie.Need-fewer-requires Inv-loop μ-loop Inv-turns μ-turns
-fewer-requires c κs = let search-at = search-of (late-of (c .before)) in
-    let ask = asked-in search-at in
-    omega (arith, never-less (put (c .before) .1) (lateSlot (c .before .before .before .before .before .late .given .0 .0)) (search-at .loop .giver) (ask .asked .given .0 .0), c .before .before .before .fewest2 .ensures .1, late (c .before .before .before .before .before) .count)
+more-requires-2 : here tie.Need-more-requires-2
+more-requires-2 c κs = hours-fit-cell (turn-searching (late-search (counted-late (c .before)))) _ (c .before .fewest2 .ensures .0)
 
-turns-less-3 : tie.Need-turns-less-3 Inv-loop μ-loop Inv-turns μ-turns
-turns-less-3 c = let search-at = search-of (late-of (c .before .before)) in
-    left-after search-at _ _ (swapped c .0)
+fewer-requires : here tie.Need-fewer-requires
+fewer-requires c κs =
+    let found = given-late (c .before) in
+    late-there (turn-searching (late-search found)) (c .before .before .before .fewest2 .ensures) (c .before .more2 .ensures) (late found)
 
-turns-again-3 : tie.Need-turns-again-3 Inv-loop μ-loop Inv-turns μ-turns
-turns-again-3 c = let ask = asked-in (search-of (late-of (c .before .before))) in
-    let s = swapped c in
-    work-starts _ _ _ _ _ (λ _. want ask .0 .grower) (s .0 .live) (s .1)
+moved : (c : here tie.After-fewer) → let search-at = late-search (taken-late c) in
+    let ask = search-asked search-at in
+    let l = asked-turn ask .before .turns in
+    let j = ask .asked .given .0 .0 in
+    let between = putCell (search-at .loop .held) (l .i) j (c .before .before .more2 .result) in
+    OverWith ask (l .price) (putCell between (search-at .loop .giver) j (c .fewer .result)) (l .free)
+moved c =
+    let found = taken-late c in
+    let more = c .before .before in
+    late-given (turn-searching (late-search found)) (more .before .before .fewest2 .ensures) (more .more2 .ensures) (late found)
+    (c .fewer .ensures)
 
-rise-requires : tie.Need-rise-requires Inv-loop μ-loop Inv-turns μ-turns
-rise-requires c κs = let search-at = c .before .before in
-    let turn = turn-of (asked-in search-at) in
-    let fit = turn .before .before .before .pre .0 in
-    let live = still search-at .live in
-    let w = still-want search-at .0 in (
-      (live .full, fit .growers, fit .pilots, w .pilot),
-      (live .low, λ i hi. hours-fit _ _ _ fit live Free i _ hi (w .pilot)),
+turns-less-3 : here tie.Need-turns-less-3
+turns-less-3 c = moved c .1
+
+turns-again-3 : here tie.Need-turns-again-3
+turns-again-3 c = moved c .0
+
+-- Rising: the pilot has neither free hours nor late ones.
+rise-requires : here tie.Need-rise-requires
+rise-requires c κs =
+    let s = turn-searching (c .before .before) in (
+      (s .live .full, s .fit .growers, s .fit .pilots, s .want .pilot),
+      (s .live .low, λ i hi. hours-fit _ _ _ (s .fit) (s .live) Free i _ hi (s .want .pilot)),
     )
 
-turns-less-4 : tie.Need-turns-less-4 Inv-loop μ-loop Inv-turns μ-turns
-turns-less-4 c = let search-at = c .before .before .before in
-    left-after search-at _ _ (risen c .0)
+risen : (c : here tie.After-rise) → let ask = search-asked (risen-search c) in
+    OverWith ask (c .rise .last .1 .1 .1 .1 .0) (c .rise .result) (asked-turn ask .before .turns .free)
+risen c =
+    let search-at = risen-search c in
+    let a = start-of (asked-turn (search-asked search-at)) .args in
+    let v = search-at .loop .inv in
+    price-risen (a .growers) (a .pilots) (a .t3) (a .pilot-hours) (a .t5) (turn-searching search-at)
+    (omega (arith, search-at .before .if1 .left))
+    (omega (arith, c .before .before .loop-test .left))
+    (none-late-still (v .0) (v .2))
+    (c .rise .ensures)
 
-turns-again-4 : tie.Need-turns-again-4 Inv-loop μ-loop Inv-turns μ-turns
-turns-again-4 c = let ask = asked-in (c .before .before .before) in
-    let s = risen c in
-    work-starts _ _ _ _ _ (λ _. want ask .0 .grower) (s .0 .live) (s .1)
+turns-less-4 : here tie.Need-turns-less-4
+turns-less-4 c = risen c .1
 
-returns : tie.Need-returns Inv-loop μ-loop Inv-turns μ-turns
+turns-again-4 : here tie.Need-turns-again-4
+turns-again-4 c = risen c .0
+
+-- Ending: all growers in a row asked for nothing.
+returns : here tie.Need-returns
 returns c = work-ends _ _ _ _ _ _ (c .before .turns .inv) (omega (arith, c .turns-test .left))
 
 pub run-spec : {M : Type 1} → statement M
@@ -349,52 +311,52 @@ run-spec =
     (λ c. omega (arith, pilot-small (c .before)))
     (λ c. omega (arith, pilot-small (c .before)))
     (λ c κs. search needs)
-    (λ c. omega (arith, grower-small (c .before .before .before .before .before .before .before .before .before)))
-    (λ c. omega (arith, pilot-small (c .before .before .before)))
-    (λ c. omega (arith, grower-small (c .before .before .before .before .before .before .before .before .before)))
-    (λ c. omega (arith, pilot-small (c .before .before .before)))
+    (λ c. omega (arith, grower-small (asked-turn (counted-asked c))))
+    (λ c. omega (arith, pilot-small (counted-asked c)))
+    (λ c. omega (arith, grower-small (asked-turn (counted-asked c))))
+    (λ c. omega (arith, pilot-small (counted-asked c)))
     more-requires
-    (λ c. omega (arith, grower-small (c .before .before .before .before .before .before .before .before .before .before .before)))
-    (λ c. omega (arith, pilot-small (c .before .before .before .before .before)))
-    (λ c. omega (arith, grower-small (c .before .before .before .before .before .before .before .before .before .before .before)))
-    (λ c. omega (arith, pilot-small (c .before .before .before .before .before)))
+    (λ c. omega (arith, grower-small (asked-turn (given-asked c))))
+    (λ c. omega (arith, pilot-small (given-asked c)))
+    (λ c. omega (arith, grower-small (asked-turn (given-asked c))))
+    (λ c. omega (arith, pilot-small (given-asked c)))
     sub-free
-    (λ c. omega (arith, pilot-small (c .before .before .before .before .before)))
-    (λ c. omega (arith, pilot-small (c .before .before .before .before .before)))
+    (λ c. omega (arith, pilot-small (given-asked c)))
+    (λ c. omega (arith, pilot-small (given-asked c)))
     turns-less-2
     turns-again-2
     loop-holds
-    (λ c. omega (arith, pilot-small (c .before .before .before .before)))
-    (λ c. omega (arith, pilot-small (c .before .before .before .before)))
+    (λ c. omega (arith, pilot-small (search-asked (c .before))))
+    (λ c. omega (arith, pilot-small (search-asked (c .before))))
     (λ c. omega (arith, giver-small (c .before)))
-    (λ c. omega (arith, pilot-small (c .before .before .before .before .before)))
+    (λ c. omega (arith, pilot-small (search-asked (c .before .before))))
     (λ c. omega (arith, giver-small (c .before)))
-    (λ c. omega (arith, pilot-small (c .before .before .before .before .before)))
+    (λ c. omega (arith, pilot-small (search-asked (c .before .before))))
     (λ c. omega (arith, giver-small (c .before .before)))
-    (λ c. omega (arith, pilot-small (c .before .before .before .before .before .before)))
+    (λ c. omega (arith, pilot-small (search-asked (c .before .before .before))))
     (λ c. omega (arith, giver-small (c .before .before)))
-    (λ c. omega (arith, pilot-small (c .before .before .before .before .before .before)))
+    (λ c. omega (arith, pilot-small (search-asked (c .before .before .before))))
     (λ c κs. search needs)
     (λ c. search needs)
     (λ c κs. search needs)
-    (λ c. omega (arith, grower-small (c .before .before .before .before .before .before .before .before .before .before .before .before .before .before .before .before .before .before)))
-    (λ c. omega (arith, pilot-small (c .before .before .before .before .before .before .before .before .before .before .before .before)))
-    (λ c. omega (arith, grower-small (c .before .before .before .before .before .before .before .before .before .before .before .before .before .before .before .before .before .before)))
-    (λ c. omega (arith, pilot-small (c .before .before .before .before .before .before .before .before .before .before .before .before)))
+    (λ c. omega (arith, grower-small (asked-turn (search-asked (late-search (counted-late c))))))
+    (λ c. omega (arith, pilot-small (search-asked (late-search (counted-late c)))))
+    (λ c. omega (arith, grower-small (asked-turn (search-asked (late-search (counted-late c))))))
+    (λ c. omega (arith, pilot-small (search-asked (late-search (counted-late c)))))
     more-requires-2
-    (λ c. omega (arith, grower-small (c .before .before .before .before .before .before .before .before .before .before .before .before .before .before .before .before .before .before .before .before)))
-    (λ c. omega (arith, pilot-small (c .before .before .before .before .before .before .before .before .before .before .before .before .before .before)))
-    (λ c. omega (arith, grower-small (c .before .before .before .before .before .before .before .before .before .before .before .before .before .before .before .before .before .before .before .before)))
-    (λ c. omega (arith, pilot-small (c .before .before .before .before .before .before .before .before .before .before .before .before .before .before)))
-    (λ c. omega (arith, giver-small (c .before .before .before .before .before .before .before .before .before .before)))
-    (λ c. omega (arith, pilot-small (c .before .before .before .before .before .before .before .before .before .before .before .before .before .before)))
-    (λ c. omega (arith, giver-small (c .before .before .before .before .before .before .before .before .before .before)))
-    (λ c. omega (arith, pilot-small (c .before .before .before .before .before .before .before .before .before .before .before .before .before .before)))
+    (λ c. omega (arith, grower-small (asked-turn (search-asked (late-search (given-late c))))))
+    (λ c. omega (arith, pilot-small (search-asked (late-search (given-late c)))))
+    (λ c. omega (arith, grower-small (asked-turn (search-asked (late-search (given-late c))))))
+    (λ c. omega (arith, pilot-small (search-asked (late-search (given-late c)))))
+    (λ c. omega (arith, giver-small (late-giver (given-late c))))
+    (λ c. omega (arith, pilot-small (search-asked (late-search (given-late c)))))
+    (λ c. omega (arith, giver-small (late-giver (given-late c))))
+    (λ c. omega (arith, pilot-small (search-asked (late-search (given-late c)))))
     fewer-requires
-    (λ c. omega (arith, giver-small (c .before .before .before .before .before .before .before .before .before .before .before .before)))
-    (λ c. omega (arith, pilot-small (c .before .before .before .before .before .before .before .before .before .before .before .before .before .before .before .before)))
-    (λ c. omega (arith, giver-small (c .before .before .before .before .before .before .before .before .before .before .before .before)))
-    (λ c. omega (arith, pilot-small (c .before .before .before .before .before .before .before .before .before .before .before .before .before .before .before .before)))
+    (λ c. omega (arith, giver-small (late-giver (taken-late c))))
+    (λ c. omega (arith, pilot-small (search-asked (late-search (taken-late c)))))
+    (λ c. omega (arith, giver-small (late-giver (taken-late c))))
+    (λ c. omega (arith, pilot-small (search-asked (late-search (taken-late c)))))
     turns-less-3
     turns-again-3
     (λ c. search needs)
