@@ -39,7 +39,8 @@ apart numbers k x s h ex es = rw (ex, es, add-one k, drop-cons numbers k 0 h) (s
 
 module _ {page₀ page : List ℕ} {from here : ℕ} {numbers : List ℕ} {k : ℕ} (w : Lining page₀ page from here numbers k) where
   pub lining-turns : (page₁ : List ℕ) (here₁ x s : ℕ) → k < length numbers → x ≡ getD numbers k 0 →
-      s ≡ separator (drop (k + 1) numbers) → Wrote page page₁ here here₁ (decimal x ++ (s ∷ [])) → Lining page₀ page₁ from here₁ numbers (k + 1)
+      s ≡ separator (drop (k + 1) numbers) → Wrote page page₁ here here₁ (decimal x ++ (s ∷ [])) → Lining page₀ page₁ from here₁ numbers
+      (k + 1)
   lining-turns page₁ here₁ x s h ex es v =
       let piece = decimal x ++ (s ∷ []) in
       let rest = line (drop (k + 1) numbers) in

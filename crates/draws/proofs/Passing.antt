@@ -50,10 +50,12 @@ hours-good n m zero x ys s p t h e later =
 hours-good n m (suc k) x ys s p t h e later =
     rw (t .growers, t .pilots, t .place, place-after n m p h, lt-ltb (p - 3) (n + m) (omega arith)) (
       rw (le-leb (hoursFrom x) 60 (omega arith)),
-      hours-good n m k (generator.next x) ys _ (p + 1) (record { growers = refl; pilots = refl; place = refl }) (omega arith) (omega arith) later,
+      hours-good n m k (generator.next x) ys _ (p + 1) (record { growers = refl; pilots = refl; place = refl }) (omega arith)
+          (omega arith) later,
     )
 
-pairs-good : (n m k x q : ℕ) (s : ticket .State) → s .growers ≡ n → s .pilots ≡ m → s .place ≡ 3 + n + m + 5 * q → Good ticket s (drawnPairs k x)
+pairs-good : (n m k x q : ℕ) (s : ticket .State) → s .growers ≡ n → s .pilots ≡ m → s .place ≡ 3 + n + m + 5 * q → Good ticket s
+    (drawnPairs k x)
 pairs-good n m zero x q s eg ep e = tt
 pairs-good n m (suc k) x q s eg ep e =
     let p = s .place in

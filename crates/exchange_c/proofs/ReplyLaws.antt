@@ -98,7 +98,8 @@ settlement-short n m s xs hn hm e =
       prod-small n m hn hm,
     )
 
-settled-short : (t xs lent after : List ℕ) (count : ℕ) → unpacked t ≡ Numbers xs → length after ≡ length lent → SettledIn t xs lent after count →
+settled-short : (t xs lent after : List ℕ) (count : ℕ) → unpacked t ≡ Numbers xs → length after ≡ length lent → SettledIn t xs lent
+    after count →
     count ≤ 1542
 settled-short t xs lent after count e same s =
     let h = unpacked-shape t xs e in

@@ -62,13 +62,15 @@ pub filled-as : (before : Grid) (val : ℕ → ℕ → ℕ) (n m n′ m′ : ℕ
 filled-as before val n m n′ m′ q e f p = rw (e, f) at p
 
 -- a square that held 0 everywhere holds 0 elsewhere
-pub filled-zeros : (before : Grid) (val : ℕ → ℕ → ℕ) (n m : ℕ) (q : Grid) → ((i j : ℕ) → at before i j ≡ 0) → FilledOver before val n m q → Filled val n m q
+pub filled-zeros : (before : Grid) (val : ℕ → ℕ → ℕ) (n m : ℕ) (q : Grid) → ((i j : ℕ) → at before i j ≡ 0) → FilledOver before val n m
+    q → Filled val n m q
 filled-zeros before val n m q zero f = record { square = f .square; inner = f .inner; outer = λ i j o. f .outer i j o ∙ zero i j }
 
 -- there is one such square
 pub filled-one : (val : ℕ → ℕ → ℕ) (n m : ℕ) (p q : Grid) → Filled val n m p → Filled val n m q → p ≡ q
 filled-one val n m p q f g = square-ext p q (f .square) (g .square) (λ i j _ _.
     ⊎-elim
-    (λ hi. ⊎-elim (λ hj. f .inner i j hi hj ∙ sym (g .inner i j hi hj)) (λ hj. f .outer i j (inr hj) ∙ sym (g .outer i j (inr hj))) (lt-or-le j m))
+    (λ hi. ⊎-elim (λ hj. f .inner i j hi hj ∙ sym (g .inner i j hi hj)) (λ hj. f .outer i j (inr hj) ∙ sym (g .outer i j (inr hj)))
+    (lt-or-le j m))
     (λ hi. f .outer i j (inl hi) ∙ sym (g .outer i j (inl hi)))
     (lt-or-le i n))

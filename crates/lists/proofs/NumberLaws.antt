@@ -119,7 +119,8 @@ reading-starts s list = record {
 module _ {s list₀ list : List ℕ} {mode : Mode} {passed count k : ℕ} (r : Reading s list₀ list mode passed count k) where
   pub reading-turns : (list₁ : List ℕ) (kind : Kind) (after : Mode) (count₁ passed₁ : ℕ) → k < length s → kind ≡ kindOf (getD s k 0) →
       nextMode mode kind ≡ On after → list₁ ≡ sets list count (numbersIn (ended mode kind)) →
-      count₁ ≡ count + length (numbersIn (ended mode kind)) → passed₁ ≡ passed + lineEnds kind → Reading s list₀ list₁ after passed₁ count₁ (k + 1)
+      count₁ ≡ count + length (numbersIn (ended mode kind)) → passed₁ ≡ passed + lineEnds kind → Reading s list₀ list₁ after passed₁
+      count₁ (k + 1)
   reading-turns list₁ kind after count₁ passed₁ h ek en es ec ep =
       let more = numbersIn (ended mode kind) in
       let e : count ≡ 0 + length (r .numbers) = omega (arith, r .counted) in
@@ -163,7 +164,8 @@ module _ {s list₀ list : List ℕ} {mode : Mode} {passed count k : ℕ} (r : R
       let f = reading-ends h in
       record {
         answer = rw f (ap Listed.Done (rw (ec, eg) (omega (arith, r .counted, length-append (r .numbers) more))));
-        stored = λ xs g. rw (← listed-same (r .numbers ++ more) xs (sym f ∙ g), es, eg, r .stored, e) (sets-append list₀ 0 (r .numbers) more);
+        stored = λ xs g. rw (← listed-same (r .numbers ++ more) xs (sym f ∙ g), es, eg, r .stored, e)
+            (sets-append list₀ 0 (r .numbers) more);
       }
 
 -- A first walk, into a list of no interest, tells how many numbers there are. The lent list is then as long as that, or too short.
@@ -179,7 +181,8 @@ module _ {first-lent first-after : List ℕ} {seen : Listed} (lent : List ℕ) w
   answer-none (text.WrongLine n) w e = let f = w .answer in let z : _≡_ {A = ℕ} 0 1 = cc in absurd (omega arith)
   answer-none (text.Listed xs) w e = let f = w .answer in let z : _≡_ {A = ℕ} 0 1 = cc in absurd (omega arith)
 
-  pub answer-short : (l : text.Listing) → Walked l first-lent first-after seen → (count : ℕ) → seen ≡ Listed.Done count → length lent < count →
+  pub answer-short : (l : text.Listing) → Walked l first-lent first-after seen → (count : ℕ) → seen ≡ Listed.Done count → length lent <
+      count →
       (Listed.NoRoom ≡ listReply (length lent) l) × (lent ≡ listKept lent l)
   answer-short (text.WrongLine n) w count e h = let f = w .answer in let z : _≡_ {A = ℕ} 0 1 = cc in absurd (omega arith)
   answer-short (text.Listed xs) w count e h =
@@ -188,7 +191,8 @@ module _ {first-lent first-after : List ℕ} {seen : Listed} (lent : List ℕ) w
       rw (lt-leb (length xs) (length lent) (omega arith)) (refl, refl)
 
   pub answer-done : (l : text.Listing) → Walked l first-lent first-after seen → (count : ℕ) → seen ≡ Listed.Done count →
-      count ≤ length lent → {after : List ℕ} {r : Listed} → Walked l lent after r → (r ≡ listReply (length lent) l) × (after ≡ listKept lent l)
+      count ≤ length lent → {after : List ℕ} {r : Listed} → Walked l lent after r → (r ≡ listReply (length lent) l) ×
+      (after ≡ listKept lent l)
   answer-done (text.WrongLine n) w count e h v = let f = w .answer in let z : _≡_ {A = ℕ} 0 1 = cc in absurd (omega arith)
   answer-done (text.Listed xs) w count e h v =
       let g = w .answer in

@@ -53,8 +53,10 @@ abbrev Turned : ℕ → ℕ → Grid → Grid → Type 0
 Turned n m q r = Filled (λ j i. at q i j) (min 16 m) (min 16 n) r
 
 -- a pilot of the rows of squares on their side
-module _ (n m : ℕ) (hn : n ≤ 16) (hm : m ≤ 16) (own : List ℕ) (tariffHours freeDealHours tariffPay pay : Grid) (byTariff byFree earned share : Grid)
-    (ft : Turned n m tariffHours byTariff) (ff : Turned n m freeDealHours byFree) (fe : Turned n m tariffPay earned) (fs : Turned n m pay share)
+module _ (n m : ℕ) (hn : n ≤ 16) (hm : m ≤ 16) (own : List ℕ) (tariffHours freeDealHours tariffPay pay : Grid)
+    (byTariff byFree earned share : Grid)
+    (ft : Turned n m tariffHours byTariff) (ff : Turned n m freeDealHours byFree) (fe : Turned n m tariffPay earned)
+    (fs : Turned n m pay share)
     (j : ℕ) (hj : j < m) where
   pilot-had : (e : Deal) (k : ℕ) → k < n → lines (getD byTariff j []) (getD byFree j []) e k ≡
       settlementIn tariffHours freeDealHours pay .hours e k j

@@ -127,8 +127,10 @@ module _ {t t′ : Ticket} {x x′ : Settlement} (ticket : SameTicket t t′) (s
 pub judged-lists : (list answer : List ℕ) (n m : ℕ) → n ≡ growersOf list → m ≡ pilotsOf list → n ≤ 16 → m ≤ 16 →
     growersOf answer ≡ growersOf list → pilotsOf answer ≡ pilotsOf list →
     {growerHours pilotHours : List ℕ} {tariffCap tariffGain tariffPay freeCap jointGain tariffHours freeDealHours pay : Grid} →
-    HoldTicket list growerHours pilotHours tariffCap tariffGain tariffPay freeCap jointGain → HoldSettlement answer tariffHours freeDealHours pay →
-    judged (ticketIn n m growerHours pilotHours tariffCap tariffGain tariffPay freeCap jointGain) (settlementIn tariffHours freeDealHours pay)
+    HoldTicket list growerHours pilotHours tariffCap tariffGain tariffPay freeCap jointGain → HoldSettlement answer tariffHours
+    freeDealHours pay →
+    judged (ticketIn n m growerHours pilotHours tariffCap tariffGain tariffPay freeCap jointGain)
+    (settlementIn tariffHours freeDealHours pay)
     ≡ judged (ticketOf list) (settlementOf answer)
 judged-lists list answer n m en em hn hm ag ap held answers =
     sym (same-judged (ticket-same list n m en em hn hm held)

@@ -37,14 +37,16 @@ found-fails true v r e f = never cc
 found-fails false v r e f = refl
 
 -- what is found of a deal by the numbers of its parties, on its hours and its cap
-module _ (d : Deal) (g p : Party) (n m i j cap jointGain hours bound : ℕ) (eh : hours ≡ lines (g .tariff) (g .free) d j) (ec : bound ≡ cap) where
+module _ (d : Deal) (g p : Party) (n m i j cap jointGain hours bound : ℕ) (eh : hours ≡ lines (g .tariff) (g .free) d j)
+    (ec : bound ≡ cap) where
   -- at its cap nothing, whatever the spares
   pub at-cap : bound ≤ hours → Nothing ≡ dealFound d g p n m i j cap jointGain
   at-cap h = rw (← eh, ← ec, le-ltb hours bound h)
 
   pub below-cap : (count : ℕ) → count ≡ 2 * (i * m + j) + dealNumber d + 1 → (ofGrower ofPilot : Spare) → ofGrower ≡ spareIn g m d j →
       ofPilot ≡ spareIn p n d i → (r : Found) →
-      r ≡ dealFault i j d count hours bound (g .unused) (p .unused) ofGrower ofPilot (getD (g .earned) j 0) (getD (p .earned) i 0) jointGain →
+      r ≡ dealFault i j d count hours bound (g .unused) (p .unused) ofGrower ofPilot (getD (g .earned) j 0) (getD (p .earned) i 0)
+      jointGain →
       r ≡ dealFound d g p n m i j cap jointGain
   below-cap count e ofGrower ofPilot eg ep r f = rw (e, eh, ec, eg, ep) at f
 

@@ -18,7 +18,8 @@ use Rattle.marker.specs.Verdict.{growerOver, pilotOver, growerSpare, pil
 use Rattle.marker.specs.Tables.{nobody, isOver, spareIn, dealFound, Origin, ticketFrom, settlementFrom}
 use Rattle.marker.proofs.Walks.{first-same}
 
-module _ {n m : ℕ} {growers pilots : List Party} {tariffCap freeCap jointGain : Grid} (o : Origin n m growers pilots tariffCap freeCap jointGain) where
+module _ {n m : ℕ} {growers pilots : List Party} {tariffCap freeCap jointGain : Grid}
+    (o : Origin n m growers pilots tariffCap freeCap jointGain) where
   -- the walks over parties who may be over their hours
   pub first-grower : first (λ p. isOver (getD growers p nobody)) n ≡ first (growerOver (ticketFrom o) (settlementFrom o)) n
   first-grower = first-same _ _ n (λ i hi. ap₂ ltb (o .grower i hi .owns) (o .grower i hi .used))
@@ -40,7 +41,8 @@ module _ {n m : ℕ} {growers pilots : List Party} {tariffCap freeCap jointGain 
     -- what is found of a deal by its parties and its pair's cells
     pub deal-found-is : (d : Deal) →
         dealFound d (getD growers i nobody) (getD pilots j nobody) n m i j (byDeal (at tariffCap i j) (at freeCap i j) d) (at jointGain i j)
-        ≡ foundIf (wrongDeal (ticketFrom o) (settlementFrom o) d i j) (dealVerdict (ticketFrom o) (settlementFrom o) (2 * (i * m + j) + dealNumber d + 1) i j d)
+        ≡ foundIf (wrongDeal (ticketFrom o) (settlementFrom o) d i j)
+        (dealVerdict (ticketFrom o) (settlementFrom o) (2 * (i * m + j) + dealNumber d + 1) i j d)
     deal-found-is d = rw (
       grower-spare d,
       pilot-spare d,

@@ -98,7 +98,8 @@ pub record Origin (n m : ℕ) (growers pilots : List Party) (tariffCap freeCap j
       (settlementIn tariffHours freeDealHours pay) j (getD pilots j nobody)
 
 -- the ticket and the settlement of all of them
-module _ {n m : ℕ} {growers pilots : List Party} {tariffCap freeCap jointGain : Grid} (o : Origin n m growers pilots tariffCap freeCap jointGain) where
+module _ {n m : ℕ} {growers pilots : List Party} {tariffCap freeCap jointGain : Grid}
+    (o : Origin n m growers pilots tariffCap freeCap jointGain) where
   abbrev pub ticketFrom : Ticket
   ticketFrom = ticketIn n m (o .growerHours) (o .pilotHours) tariffCap (o .tariffGain) (o .tariffPay) freeCap jointGain
 

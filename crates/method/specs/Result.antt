@@ -23,7 +23,8 @@ abbrev pub paysOf : List (List Agreed) → List ℕ → ℕ → ℕ → ℕ → 
 paysOf held prices shift i j = payAt (line prices j) shift (hoursOf (heldIn held) Free i j)
 
 -- what n growers and m pilots fly that hold these hours, in squares that held something before
-pub record Flown (held : List (List Agreed)) (prices : List ℕ) (shift n m : ℕ) (tariffBefore freeBefore tariffHours freeDealHours pay : Grid) : Type 0 where
+pub record Flown (held : List (List Agreed)) (prices : List ℕ) (shift n m : ℕ)
+    (tariffBefore freeBefore tariffHours freeDealHours pay : Grid) : Type 0 where
   pub tariffHoursIn : FilledOver tariffBefore (hoursOf (heldIn held) Tariff) n m tariffHours
   pub freeDealHoursIn : FilledOver freeBefore (hoursOf (heldIn held) Free) n m freeDealHours
   pub payIn : Filled (paysOf held prices shift) n m pay

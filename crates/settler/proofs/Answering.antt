@@ -61,7 +61,8 @@ pub written-answers : (xs list own lent after : List ℕ) (r : Reply) (growers p
     3 + 4 * pairs ≤ length lent → r ≡ reply (length lent) (settlementPacked growers pilots own) →
     after ≡ kept lent (settlementPacked growers pilots own) → AnswersNumbers xs lent after r
 written-answers xs list own lent after r growers pilots pairs f eg ep e cut room answered left =
-    settled-answers xs list lent after r f (omega (arith, room, count)) (answered ∙ ap (reply (length lent)) same) (left ∙ ap (kept lent) same)
+    settled-answers xs list lent after r f (omega (arith, room, count)) (answered ∙ ap (reply (length lent)) same)
+    (left ∙ ap (kept lent) same)
   where
     count : pairs ≡ growersOf xs * pilotsOf xs
     count = e ∙ rw (eg, ep)

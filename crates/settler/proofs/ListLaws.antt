@@ -52,7 +52,8 @@ module _ (n m : ℕ) (tariffHours freeDealHours pay : Grid) where
     pairs = λ k q hk h. absurd (omega arith);
   }
 
-  pub listed-more : (c : ℕ) (l l′ : List ℕ) (x y z : ℕ) → ((k : ℕ) → nth x y z k ≡ numberOf tariffHours freeDealHours pay k (c / m) (c % m)) →
+  pub listed-more : (c : ℕ) (l l′ : List ℕ) (x y z : ℕ) →
+      ((k : ℕ) → nth x y z k ≡ numberOf tariffHours freeDealHours pay k (c / m) (c % m)) →
       Written l l′ (3 + 3 * c) x y z → ListedTo c l → ListedTo (c + 1) l′
   listed-more c l l′ x y z e w s = record {
     long = w .long ∙ s .long;

@@ -59,7 +59,8 @@ module _ {n m : ℕ} {tariffHours freeDealHours pay : Grid} {list : List ℕ} (l
       ∙ own-number (pairPlace 3 3 k m i j) (omega (arith, pair-below n m i j hi hj))
       ∙ l .pairs k i j hk hi hj
 
-  own-same : (t : Ticket) → t .growers ≡ n → t .pilots ≡ m → SameSettlement t (settlementIn tariffHours freeDealHours pay) (settlementOf own)
+  own-same : (t : Ticket) → t .growers ≡ n → t .pilots ≡ m → SameSettlement t (settlementIn tariffHours freeDealHours pay)
+      (settlementOf own)
   own-same t en em = record {
     hours = hours;
     pay = λ i j hi hj. of-pair i j 2 (omega (arith, en)) (omega (arith, em)) (omega arith);
@@ -107,7 +108,8 @@ module _ {n m : ℕ} {tariffHours freeDealHours pay : Grid} {list : List ℕ} (l
 
 -- A sound settlement of the ticket that a list means, written into a list: the front of that list is sound.
 pub sound-front : (xs : List ℕ) → IsTicket xs → (t : Ticket) → SameTicket t (ticketOf xs) → (tariffHours freeDealHours pay : Grid) →
-    Sound t (settlementIn tariffHours freeDealHours pay) → (list : List ℕ) → length list ≡ 771 → (n m : ℕ) → n ≡ growersOf xs → m ≡ pilotsOf xs →
+    Sound t (settlementIn tariffHours freeDealHours pay) → (list : List ℕ) → length list ≡ 771 → (n m : ℕ) → n ≡ growersOf xs → m ≡
+    pilotsOf xs →
     Listed n m tariffHours freeDealHours pay list → SoundFront xs list
 sound-front xs is t same tariffHours freeDealHours pay s list long n m en em listed = record {
   good = record { sound = sound; nobodyGains = nothing-blocks-iff (ticketOf xs) _ .0 (sound .nothingBlocks) };

@@ -10,7 +10,8 @@ use Rattle.sheets.specs.Sheet.{pairLines, sheetText}
 use Rattle.bytes.specs.Lines.{refusedText}
 
 pub sheet-of-a : sheetText (1 ∷ 1 ∷ 1 ∷ 3 ∷ 2 ∷ 1 ∷ 4 ∷ 3 ∷ 0 ∷ 0 ∷ []) (2 ∷ 1 ∷ 1 ∷ 1 ∷ 0 ∷ 0 ∷ [])
-    ≡ 83 ∷ 72 ∷ 69 ∷ 69 ∷ 84 ∷ 32 ∷ 49 ∷ 32 ∷ 49 ∷ 10 ∷ 48 ∷ 32 ∷ 48 ∷ 32 ∷ 49 ∷ 32 ∷ 52 ∷ 32 ∷ 51 ∷ 32 ∷ 48 ∷ 32 ∷ 48 ∷ 32 ∷ 48 ∷ 10 ∷ 83 ∷ 79 ∷ 85 ∷ 78 ∷ 68 ∷ 32 ∷ 50 ∷ 10 ∷ []
+    ≡ 83 ∷ 72 ∷ 69 ∷ 69 ∷ 84 ∷ 32 ∷ 49 ∷ 32 ∷ 49 ∷ 10 ∷ 48 ∷ 32 ∷ 48 ∷ 32 ∷ 49 ∷ 32 ∷ 52 ∷ 32 ∷ 51 ∷ 32 ∷ 48 ∷ 32 ∷ 48 ∷ 32 ∷ 48 ∷ 10 ∷
+    83 ∷ 79 ∷ 85 ∷ 78 ∷ 68 ∷ 32 ∷ 50 ∷ 10 ∷ []
 unfolding decimal pairLines first sum cheapestOf
 sheet-of-a = refl
 

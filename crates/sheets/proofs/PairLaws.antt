@@ -35,7 +35,8 @@ module _ (t f : ℕ) (numbers : List ℕ) (none : Bool) (e : none ≡ (eqb t 0 &
   pub wrote-no-line : (page : List ℕ) (at : ℕ) → none ≡ true → Wrote page page at at (lineIfHours t f numbers)
   wrote-no-line page at h = rw (sym e ∙ h) (wrote-nothing page at)
 
-  pub wrote-line : {l l₁ : List ℕ} {at end : ℕ} → none ≡ false → Wrote l l₁ at end (line numbers) → Wrote l l₁ at end (lineIfHours t f numbers)
+  pub wrote-line : {l l₁ : List ℕ} {at end : ℕ} → none ≡ false → Wrote l l₁ at end (line numbers) → Wrote l l₁ at end
+      (lineIfHours t f numbers)
   wrote-line h w = rw (sym e ∙ h) w
 
 pub if-hours-short : (t f : ℕ) (numbers : List ℕ) → length (lineIfHours t f numbers) ≤ 4 * length numbers
@@ -54,7 +55,8 @@ unfolding pairLines
 one-pair-more f m p = rw (add-one p)
 
 pub pairs-turn : (f : ℕ → ℕ → List ℕ) (m p : ℕ) (piece : List ℕ) {l l₁ l₂ : List ℕ} {from at end : ℕ} →
-    Wrote l l₁ from at (pairLines f m p) → piece ≡ f (p / m) (p % m) → Wrote l₁ l₂ at end piece → Wrote l l₂ from end (pairLines f m (p + 1))
+    Wrote l l₁ from at (pairLines f m p) → piece ≡ f (p / m) (p % m) → Wrote l₁ l₂ at end piece → Wrote l l₂ from end
+    (pairLines f m (p + 1))
 pairs-turn f m p piece w e v = wrote-same _ (ap (λ (x : List ℕ). pairLines f m p ++ x) e ∙ sym (one-pair-more f m p)) (wrote-then w v)
 
 pub pairs-short : (f : ℕ → ℕ → List ℕ) (m k : ℕ) → ((i j : ℕ) → length (f i j) ≤ 32) → length (pairLines f m k) ≤ 32 * k
@@ -94,7 +96,8 @@ module _ (tariffHours tariffGain tariffPay freeDealHours jointGain pay : Grid) w
   turn-writes m p numbers e w v = pairs-turn lineOf m p _ w (rw e) v
 
 -- the lines of the pairs within the market decide
-pub same-lines : (f g : ℕ → ℕ → List ℕ) (n m : ℕ) → ((i j : ℕ) → i < n → j < m → f i j ≡ g i j) → pairLines f m (n * m) ≡ pairLines g m (n * m)
+pub same-lines : (f g : ℕ → ℕ → List ℕ) (n m : ℕ) → ((i j : ℕ) → i < n → j < m → f i j ≡ g i j) → pairLines f m (n * m) ≡ pairLines g m
+    (n * m)
 unfolding pairLines
 same-lines f g n m h = go (n * m) (omega arith)
   where

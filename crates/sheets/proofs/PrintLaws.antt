@@ -62,7 +62,8 @@ module _ {ticket xs file : List ℕ} (f : SoundFile ticket xs file) (n m : ℕ) 
   reads : settlementRead n m file ≡ Numbers (f .numbers)
   reads = rw (en, em) (f .settles .read)
 
-  pub file-not-refused : {A : Type 0} (zeros : List ℕ) (w : ℕ) → length zeros ≡ 771 → Reply.Refused w ≡ reply (length zeros) (settlementRead n m file) → A
+  pub file-not-refused : {A : Type 0} (zeros : List ℕ) (w : ℕ) → length zeros ≡ 771 → Reply.Refused w ≡ reply (length zeros)
+      (settlementRead n m file) → A
   file-not-refused zeros w long e =
       let few = settlement-few n m (f .numbers) (settlement-shape n m file (f .numbers) reads)
       (omega (arith, en, few-growers (f .settles))) (omega (arith, em, few-pilots (f .settles))) in

@@ -94,7 +94,8 @@ module _ {ticket xs file ys : List ℕ} (s : Settles ticket xs file ys) where
   hours-small i j hi hj =
       let d = unpacked-deal ticket xs (s .unpacks) i j hi hj in
       let f = s .good .sound .feasible in
-      let cap : quantityOf TariffCap xs i j ≤ 60 = first-capped xs (3 + growersOf xs + pilotsOf xs + 5 * (i * pilotsOf xs + j)) (d .tariffCapped) in
+      let cap : quantityOf TariffCap xs i j ≤ 60 = first-capped xs (3 + growersOf xs + pilotsOf xs + 5 * (i * pilotsOf xs + j))
+      (d .tariffCapped) in
       let tariff : quantityOf TariffHours ys i j ≤ quantityOf TariffCap xs i j = f .fits .deal Tariff i j hi hj in (
         omega arith,
         omega (arith, f .fits .deal Free i j hi hj, d .freeCapped),
@@ -144,7 +145,8 @@ module _ {ticket xs file ys : List ℕ} (s : Settles ticket xs file ys) where
 
     -- written from squares, n and m being the list's growers and pilots
     pub lines-fit : (n m at : ℕ) → n ≡ growersOf xs → m ≡ pilotsOf xs → at ≤ 14 →
-        ((n ≤ 16) × (m ≤ 16) × (at + 8192 ≤ pageBytes)) × Printable n m (numbersIn tariffHours tariffGain tariffPay freeDealHours jointGain pay)
+        ((n ≤ 16) × (m ≤ 16) × (at + 8192 ≤ pageBytes)) × Printable n m
+        (numbersIn tariffHours tariffGain tariffPay freeDealHours jointGain pay)
     lines-fit n m at en em near =
         ((omega (arith, en, few-growers), omega (arith, em, few-pilots), omega arith), rw (en, em) squares-printable)
 
@@ -174,7 +176,8 @@ last-fits {xs} {ys} t near w =
     let few = prod-small (growersOf xs) (pilotsOf xs) (few-growers s) (few-pilots s) in
     (omega (arith, t .marks, count-small s), omega (arith, w .ends, lines-short xs ys))
 
-pub sheet-whole : {xs ys page page₁ page₂ page₃ : List ℕ} {next last end count : ℕ} → Together xs ys count → Wrote page page₁ 0 next (headOf xs) →
+pub sheet-whole : {xs ys page page₁ page₂ page₃ : List ℕ} {next last end count : ℕ} → Together xs ys count → Wrote page page₁ 0 next
+    (headOf xs) →
     Wrote page₁ page₂ next last (linesOf xs ys) → Wrote page₂ page₃ last end (soundWord ++ line (count ∷ [])) →
     Wrote page page₃ 0 end (sheetText xs ys)
 sheet-whole t headed lined closed = wrote-then (wrote-then headed lined) (rw (t .marks) at closed)

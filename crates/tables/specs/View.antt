@@ -73,7 +73,8 @@ Holds quantity list square = Filled (quantityOf quantity list) (min 16 (growersO
 
 -- The same of a square that held something before, which stands elsewhere as it stood.
 abbrev pub HoldsOver : Grid → Quantity → List ℕ → Grid → Type 0
-HoldsOver before quantity list square = FilledOver before (quantityOf quantity list) (min 16 (growersOf list)) (min 16 (pilotsOf list)) square
+HoldsOver before quantity list square = FilledOver before (quantityOf quantity list) (min 16 (growersOf list)) (min 16 (pilotsOf list))
+    square
 
 -- Rows and squares hold all that a ticket's list says.
 pub record HoldTicket (list growerHours pilotHours : List ℕ) (tariffCap tariffGain tariffPay freeCap jointGain : Grid) : Type 0 where

@@ -9,7 +9,8 @@ use Rattle.bytes.specs.Decimal.{decimal}
 use Rattle.texts.specs.MarkLine.{markLine}
 
 -- `MARK 8 0 1 free 4`
-pub blocks : markLine (valuesOf (Blocks 0 1 Free 4)) ≡ 77 ∷ 65 ∷ 82 ∷ 75 ∷ 32 ∷ 56 ∷ 32 ∷ 48 ∷ 32 ∷ 49 ∷ 32 ∷ 102 ∷ 114 ∷ 101 ∷ 101 ∷ 32 ∷ 52 ∷ 10 ∷ []
+pub blocks : markLine (valuesOf (Blocks 0 1 Free 4)) ≡ 77 ∷ 65 ∷ 82 ∷ 75 ∷ 32 ∷ 56 ∷ 32 ∷ 48 ∷ 32 ∷ 49 ∷ 32 ∷ 102 ∷ 114 ∷ 101 ∷ 101 ∷ 32
+    ∷ 52 ∷ 10 ∷ []
 unfolding decimal
 blocks = refl
 

@@ -52,7 +52,8 @@ module _ (v : Values) {blank page : List ℕ} {end : ℕ} (w : Wrote blank page 
   front-is : take end page ≡ markLine v
   front-is =
       let e : end ≡ length (markLine v) = omega (arith, w .ends) in
-      rw (w .stored, written-front blank (markLine v) (omega (arith, long, line-fits v)), e) (take-at (markLine v) _ (length (markLine v)) refl)
+      rw (w .stored, written-front blank (markLine v) (omega (arith, long, line-fits v)), e)
+      (take-at (markLine v) _ (length (markLine v)) refl)
 
   pub front-long : end ≡ length (take end page)
   front-long = omega (arith, w .ends, ap length front-is)
@@ -62,7 +63,8 @@ module _ (v : Values) {blank page : List ℕ} {end : ℕ} (w : Wrote blank page 
     text-is = ap markLine is
 
     pub told-short : length lent < end →
-        Tells (Reply.Refused noRoom) (length lent) (Numbers (markLine (markedValues t s))) × (lent ≡ kept lent (Numbers (markLine (markedValues t s))))
+        Tells (Reply.Refused noRoom) (length lent) (Numbers (markLine (markedValues t s))) ×
+        (lent ≡ kept lent (Numbers (markLine (markedValues t s))))
     told-short h =
         rw (← text-is) (
           tells _ (length lent) (Numbers (markLine v)) (sym (reply-without-room (length lent) (markLine v) (omega (arith, w .ends)))),
@@ -70,7 +72,8 @@ module _ (v : Values) {blank page : List ℕ} {end : ℕ} (w : Wrote blank page 
         )
 
     pub told-copied : (after : List ℕ) (place : ℕ) → end ≤ length lent → Wrote lent after 0 place (take end page) →
-        Tells (Reply.Done end) (length lent) (Numbers (markLine (markedValues t s))) × (after ≡ kept lent (Numbers (markLine (markedValues t s))))
+        Tells (Reply.Done end) (length lent) (Numbers (markLine (markedValues t s))) ×
+        (after ≡ kept lent (Numbers (markLine (markedValues t s))))
     told-copied after place h c =
         let fits : length (markLine v) ≤ length lent = omega (arith, w .ends) in
         let e : end ≡ length (markLine v) = omega (arith, w .ends) in

@@ -1,4 +1,5 @@
--- What is found of a pair and of a deal, from their numbers: the verdict on a fault, or nothing. Everywhere i is a grower, j a pilot, d a deal.
+-- What is found of a pair and of a deal, from their numbers: the verdict on a fault, or nothing. Everywhere i is a grower, j a pilot, d
+-- a deal.
 -- Assumes nothing.
 use Prim.Native.Nat.{ℕ}
 use mathlib.Core.Bool.{Bool, true, false, cond, _||_}

@@ -23,11 +23,19 @@ fill-hours-requires c κs = simp length-set (omega arith)
 fill-pairs-requires : tie.Need-fill-pairs-requires
 fill-pairs-requires c κs =
     let s = c .before .before .before .before .before .before in
-    omega
-    (arith, hours-long (s .args .list .now) _ (s .args .growers) (s .args .pilots) (drawnHours (s .args .growers + s .args .pilots) (s .args .x)) (c .before .before .before .fill-hours .ensures .1), s .pre)
+    omega (
+      arith,
+      hours-long (s .args .list .now) _ (s .args .growers) (s .args .pilots)
+          (drawnHours (s .args .growers + s .args .pilots) (s .args .x)) (c .before .before .before .fill-hours .ensures .1),
+      s .pre,
+    )
 
 -- the list at the end
-whole : (c : tie.After-slice-known3) → c .before .before .fill-pairs .last .0 ≡ sets (c .before .before .before .before .before .before .before .before .before .args .list .now) 0 (ticketFrom (c .before .before .before .before .before .before .before .before .before .args .growers) (c .before .before .before .before .before .before .before .before .before .args .pilots) (c .before .before .before .before .before .before .before .before .before .args .x))
+whole : (c : tie.After-slice-known3) → c .before .before .fill-pairs .last .0 ≡ sets
+    (c .before .before .before .before .before .before .before .before .before .args .list .now) 0
+    (ticketFrom (c .before .before .before .before .before .before .before .before .before .args .growers)
+    (c .before .before .before .before .before .before .before .before .before .args .pilots)
+    (c .before .before .before .before .before .before .before .before .before .args .x))
 whole c =
     let s = c .before .before .before .before .before .before .before .before .before in
     ticket-stored (s .args .list .now) _ _ (s .args .growers) (s .args .pilots) (s .args .pairs) (s .args .x) _ (s .pre .0 .2)

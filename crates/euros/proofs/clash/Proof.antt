@@ -30,8 +30,11 @@ returns c =
 loop-again : tie.Need-loop-again Inv-loop μ-loop
 loop-again c =
     let turn = c .before .before .before .before in
-    let a = turn .before .args in
-    (omega arith, none-more _ _ (turn .loop .inv .1) (ne-eqb ((getD (a .t2) (turn .loop .j) 0 + a .shift) % 18) 0 (λ e. c .if1 .left (omega arith))))
+    let a = turn .before .args in (
+      omega arith,
+      none-more _ _ (turn .loop .inv .1)
+          (ne-eqb ((getD (a .t2) (turn .loop .j) 0 + a .shift) % 18) 0 (λ e. c .if1 .left (omega arith))),
+    )
 
 returns-2 : tie.Need-returns-2 Inv-loop μ-loop
 returns-2 c = sym (first-is _ _ _ (omega arith) (none-le _ _ _ (c .before .loop .inv .1) (omega arith)) (λ h. absurd (omega arith)))

@@ -1,4 +1,5 @@
--- `exchange_c::exchange_settle` meets its contract: the settler's reply as a number, whose count is small because the buffer keeps its length.
+-- `exchange_c::exchange_settle` meets its contract: the settler's reply as a number, whose count is small because the buffer keeps its
+-- length.
 -- Assumes nothing.
 use Rattle.exchange_c.proofs.ReplyLaws.{settle-small}
 use borrow.Author.Needs.{needs}

@@ -30,17 +30,25 @@ loop2-holds c = (omega arith, λ before p. p)
 loop2-again : tie.Need-loop2-again Inv-loop2 μ-loop2 Inv-loop μ-loop
 loop2-again c =
     let s = c .before .before .before .before .before .before .before .before in
-    let small = square-is (s .args .t1) _ (s .good .0) .small (c .before .before .loop2 .i) (c .before .before .before .before .loop .j) in
-    (omega arith, λ before p. part-put _ _ _ _ _ _ _ (omega arith) (omega arith) (omega arith) small refl (c .before .before .loop2 .inv .1 before p))
+    let small = square-is (s .args .t1) _ (s .good .0) .small (c .before .before .loop2 .i) (c .before .before .before .before .loop .j) in (
+      omega arith,
+      λ before p. part-put _ _ _ _ _ _ _ (omega arith) (omega arith) (omega arith) small refl
+          (c .before .before .loop2 .inv .1 before p),
+    )
 
 loop-again : tie.Need-loop-again Inv-loop2 μ-loop2 Inv-loop μ-loop
-loop-again c = (omega arith, part-row _ _ _ _ _ _ (omega arith) (omega arith) (c .before .loop2 .inv .1 _ (c .before .before .before .loop .inv .1)))
+loop-again c = (
+  omega arith,
+  part-row _ _ _ _ _ _ (omega arith) (omega arith)
+      (c .before .loop2 .inv .1 _ (c .before .before .before .loop .inv .1)),
+)
 
 returns : tie.Need-returns Inv-loop2 μ-loop2 Inv-loop μ-loop
 returns c =
     let sq = c .before .before .before .before .before .args .t1 in
     filled-zeros _ (λ b a. at sq a b) _ _ _ (c .before .before .zeros .ensures .1)
-    (filled-as _ (λ b a. at sq a b) (c .before .before .before .before .within .result) (c .before .before .before .within2 .result) _ _ _ (omega arith) (omega arith)
+    (filled-as _ (λ b a. at sq a b) (c .before .before .before .before .within .result) (c .before .before .before .within2 .result) _ _
+    _ (omega arith) (omega arith)
     (part-end _ _ _ _ _ _ (omega arith) (omega arith) (c .before .loop .inv .1)))
 
 pub turned-spec : {M : Type 1} → statement M

@@ -15,14 +15,16 @@ numbers-are : (c : tie.After-front) →
     ≡ Numbers (c .front .result .now)
 numbers-are c =
     let u = c .before .before .before .before .before .before .unpack in
-    unpacked-is _ _ _ _ (sym (c .before .before .before .reply2 .given .1) ∙ u .ensures .0 .reply) (rw (u .ensures .1) at (c .front .ensures))
+    unpacked-is _ _ _ _ (sym (c .before .before .before .reply2 .given .1) ∙ u .ensures .0 .reply)
+    (rw (u .ensures .1) at (c .front .ensures))
 
 mark-against-requires : tie.Need-mark-against-requires
 mark-against-requires c κs = few-parties _ _ (numbers-are c)
 
 returns : tie.Need-returns
 returns c =
-    let e = refused-ticket _ _ (c .before .before .before .before .before .before .ticket-list .result) _ (c .before .before .before .before .before .before .ticket-list .ensures .1)
+    let e = refused-ticket _ _ (c .before .before .before .before .before .before .ticket-list .result) _
+    (c .before .before .before .before .before .before .ticket-list .ensures .1)
     (sym (c .before .reply .given .1) ∙ c .before .before .before .before .unpack .ensures .0 .reply) in (e, ap valuesOf e)
 
 returns-2 : tie.Need-returns-2

@@ -19,10 +19,12 @@ pilots-are c = c .pilots .ensures .0
 
 -- the front of the list is what the settlement is read as
 answer : (c : tie.After-front) → let q = c .before .before .before .before .before .before .before .before .before in
-    settlementRead (q .before .growers .result) (q .pilots .result) (q .before .before .before .before .args .settlement .now) ≡ Numbers (c .front .result .now)
+    settlementRead (q .before .growers .result) (q .pilots .result) (q .before .before .before .before .args .settlement .now) ≡ Numbers
+    (c .front .result .now)
 answer c =
     let u = c .before .before .before .before .before .before .read-settlement in
-    answer-is _ _ _ _ _ _ (sym (c .before .before .before .reply2 .given .1) ∙ u .ensures .0 .reply) (rw (u .ensures .1) at (c .front .ensures))
+    answer-is _ _ _ _ _ _ (sym (c .before .before .before .reply2 .given .1) ∙ u .ensures .0 .reply)
+    (rw (u .ensures .1) at (c .front .ensures))
 
 judge-requires : tie.Need-judge-requires
 judge-requires c κs =
@@ -34,14 +36,17 @@ returns : tie.Need-returns
 returns c =
     let q = c .before .before .before .before .before .before .before in
     let few = q .before .before .before .before .pre in
-    refused-answer (q .before .before .before .before .args .ticket .now) _ (c .before .before .before .before .before .before .settlement-list .result) _ _ _ (growers-are q) (pilots-are q)
+    refused-answer (q .before .before .before .before .args .ticket .now) _
+    (c .before .before .before .before .before .before .settlement-list .result) _ _ _ (growers-are q) (pilots-are q)
     (omega (arith, growers-are q, few)) (omega (arith, pilots-are q, few))
-    (c .before .before .before .before .before .before .settlement-list .ensures .1) (sym (c .before .reply .given .1) ∙ c .before .before .before .before .read-settlement .ensures .0 .reply)
+    (c .before .before .before .before .before .before .settlement-list .ensures .1)
+    (sym (c .before .reply .given .1) ∙ c .before .before .before .before .read-settlement .ensures .0 .reply)
 
 returns-2 : tie.Need-returns-2
 returns-2 c =
     let q = c .before .before .before .before .before .before .before .before .before .before in
-    judged-answer (q .before .before .before .before .args .ticket .now) _ _ _ _ _ (growers-are q) (pilots-are q) (answer (c .before)) (c .judge .ensures)
+    judged-answer (q .before .before .before .before .args .ticket .now) _ _ _ _ _ (growers-are q) (pilots-are q) (answer (c .before))
+    (c .judge .ensures)
 
 pub mark-against-spec : {M : Type 1} → statement M
 mark-against-spec =

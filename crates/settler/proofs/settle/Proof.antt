@@ -15,7 +15,8 @@ numbers-are : (c : tie.After-front) →
     ≡ Numbers (c .front .result .now)
 numbers-are c =
     let u = c .before .before .before .before .before .before .unpack in
-    unpacked-is _ _ _ _ (sym (c .before .before .before .reply2 .given .1) ∙ u .ensures .0 .reply) (rw (u .ensures .1) at (c .front .ensures))
+    unpacked-is _ _ _ _ (sym (c .before .before .before .reply2 .given .1) ∙ u .ensures .0 .reply)
+    (rw (u .ensures .1) at (c .front .ensures))
 
 settle-numbers-requires : tie.Need-settle-numbers-requires
 settle-numbers-requires c κs = record { bytes = c .before .before .before .before .before .before .before .before .before .before .before .before .args .ticket .now; from = numbers-are (c .before) }
@@ -23,7 +24,9 @@ settle-numbers-requires c κs = record { bytes = c .before .before .before .befo
 returns : tie.Need-returns
 returns c =
     let u = c .before .before .before .before .unpack in
-    refused-settles _ (c .before .before .before .before .before .before .ticket-list .result) _ _ (c .before .before .before .before .before .before .ticket-list .ensures .1) (sym (c .before .reply .given .1) ∙ u .ensures .0 .reply)
+    refused-settles _ (c .before .before .before .before .before .before .ticket-list .result) _ _
+    (c .before .before .before .before .before .before .ticket-list .ensures .1)
+    (sym (c .before .reply .given .1) ∙ u .ensures .0 .reply)
 
 returns-2 : tie.Need-returns-2
 returns-2 c =

@@ -33,7 +33,8 @@ returns-2 c =
     let l = c .before .before .before .before .before .before .list-sound in
     let w = c .before .before .write-settlement in
     written-answers _ _ _ _ _ _ _ _ _ (l .ensures .1) (q .before .before .growers .ensures .0) (q .before .pilots .ensures .0) (all q)
-    (c .before .before .before .before .front .ensures) (c .before .before .before .before .before .before .before .before .before .if1 .left) (w .ensures .0 .reply) (w .ensures .1)
+    (c .before .before .before .before .front .ensures)
+    (c .before .before .before .before .before .before .before .before .before .if1 .left) (w .ensures .0 .reply) (w .ensures .1)
 
 pub settle-numbers-spec : {M : Type 1} → statement M
 settle-numbers-spec =

@@ -22,8 +22,13 @@ loop-holds c = (omega arith, refl, front-none (c .args .page .now) _)
 loop-again : tie.Need-loop-again Inv-loop μ-loop
 loop-again c =
     let s = c .before .before .before in
-    let i = c .before .before .loop .inv in
-    (omega arith, simp length-set (i .1), rw (i .2) (front-more (s .args .page .now) (s .args .text .now) (c .before .before .loop .k) (omega (arith, s .pre)) (omega (arith, s .pre))))
+    let i = c .before .before .loop .inv in (
+      omega arith,
+      simp length-set (i .1),
+      rw (i .2)
+          (front-more (s .args .page .now) (s .args .text .now) (c .before .before .loop .k) (omega (arith, s .pre))
+          (omega (arith, s .pre))),
+    )
 
 returns : tie.Need-returns Inv-loop μ-loop
 returns c =

@@ -14,7 +14,9 @@ print-file-requires c κs =
 returns : tie.Need-returns
 returns c =
     let z = c .before .before .before .before .before .no-bytes in
-    settle-not-refused (c .before .before .before .before .before .before .before .before .args .ticket .now) _ (z .result) _ _ (c .before .before .before .before .before .before .before .before .pre) (z .ensures) (c .before .before .before .settle .ensures) _ (c .enum-told .given .1)
+    settle-not-refused (c .before .before .before .before .before .before .before .before .args .ticket .now) _ (z .result) _ _
+    (c .before .before .before .before .before .before .before .before .pre) (z .ensures)
+    (c .before .before .before .settle .ensures) _ (c .enum-told .given .1)
 
 pub print-settled-spec : {M : Type 1} → statement M
 print-settled-spec =

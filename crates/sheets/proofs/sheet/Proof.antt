@@ -15,7 +15,8 @@ numbers-are : (c : tie.After-front) →
     ≡ Numbers (c .front .result .now)
 numbers-are c =
     let u = c .before .before .before .before .before .before .unpack in
-    unpacked-is _ _ _ _ (sym (c .before .before .before .reply2 .given .1) ∙ u .ensures .0 .reply) (rw (u .ensures .1) at (c .front .ensures))
+    unpacked-is _ _ _ _ (sym (c .before .before .before .reply2 .given .1) ∙ u .ensures .0 .reply)
+    (rw (u .ensures .1) at (c .front .ensures))
 
 sheet-settled-requires : tie.Need-sheet-settled-requires
 sheet-settled-requires c κs = numbers-are (c .before)
@@ -24,7 +25,8 @@ returns : tie.Need-returns
 returns c =
     let z = c .before .before .before .before .before .before .before .before .before .before .ticket-list in
     refused-sheeted _ (z .result) _ _ _ _ (z .ensures .1)
-    (sym (c .before .before .before .before .before .reply .given .1) ∙ c .before .before .before .before .before .before .before .before .unpack .ensures .0 .reply)
+    (sym (c .before .before .before .before .before .reply .given .1) ∙
+    c .before .before .before .before .before .before .before .before .unpack .ensures .0 .reply)
     (c .before .before .sheet-refused .ensures)
 
 returns-2 : tie.Need-returns-2

@@ -22,7 +22,8 @@ copy-requires c κs =
 returns-2 : tie.Need-returns-2
 returns-2 c =
     let v = c .before .before .before .before .before .before .counted .ensures in
-    sheeted-copied (refusal-printed _ v) (c .before .before .before .before .before .before .before .before .before .blank .ensures) (refusal-in-page _) _ _
+    sheeted-copied (refusal-printed _ v) (c .before .before .before .before .before .before .before .before .before .blank .ensures)
+    (refusal-in-page _) _ _
     (refusal-room _ v _ (c .before .before .before .before .before .if1 .left))
     (c .before .before .copy .ensures)
 

@@ -14,7 +14,8 @@ use Rattle.sheets.proofs.sheet_settled.Statement.{statement}
 use Rattle.sheets.proofs.sheet_settled.Tie as tie
 
 -- the ticket's growers and pilots
-growers-are : (c : tie.After-pilots) → c .before .growers .result ≡ growersOf (c .before .before .before .before .before .args .numbers .now)
+growers-are : (c : tie.After-pilots) → c .before .growers .result ≡ growersOf
+    (c .before .before .before .before .before .args .numbers .now)
 growers-are c = c .before .growers .ensures .0
 
 pilots-are : (c : tie.After-pilots) → c .pilots .result ≡ pilotsOf (c .before .before .before .before .before .args .numbers .now)
@@ -23,10 +24,12 @@ pilots-are c = c .pilots .ensures .0
 -- a ticket has at most 16 of each, so all pairs are counted
 all : (c : tie.After-pairs) →
     c .pairs .result
-    ≡ growersOf (c .before .before .before .before .before .before .args .numbers .now) * pilotsOf (c .before .before .before .before .before .before .args .numbers .now)
+    ≡ growersOf (c .before .before .before .before .before .before .args .numbers .now) * pilotsOf
+    (c .before .before .before .before .before .before .args .numbers .now)
 all c =
     let q = c .before in
-    let s = unpacked-shape (q .before .before .before .before .before .args .ticket .now) _ (q .before .before .before .before .before .pre) in
+    let s = unpacked-shape (q .before .before .before .before .before .args .ticket .now) _
+    (q .before .before .before .before .before .pre) in
     let counted = c .pairs .ensures .1 (omega (arith, growers-are q, s .growers)) (omega (arith, pilots-are q, s .pilots)) in
     cc (counted, growers-are q, pilots-are q)
 
@@ -44,13 +47,15 @@ slice-aggregate-copy c = page-long (c .before .print-settled .ensures) (c .befor
 copy-requires : tie.Need-copy-requires
 copy-requires c κs =
     let s = c .before .before .before .before .before .before .before .before .before .before .before .before in
-    end-within (c .before .before .print-settled .ensures) (c .before .before .before .before .blank .ensures) (room-in-page (s .args .ticket .now) _ (s .pre)) _
+    end-within (c .before .before .print-settled .ensures) (c .before .before .before .before .blank .ensures)
+    (room-in-page (s .args .ticket .now) _ (s .pre)) _
     (room (c .before .before .before .before .before))
 
 returns-2 : tie.Need-returns-2
 returns-2 c =
     let s = c .before .before .before .before .before .before .before .before .before .before .before .before .before .before .before in
-    sheeted-copied (c .before .before .before .before .before .print-settled .ensures) (c .before .before .before .before .before .before .before .blank .ensures)
+    sheeted-copied (c .before .before .before .before .before .print-settled .ensures)
+    (c .before .before .before .before .before .before .before .blank .ensures)
     (room-in-page (s .args .ticket .now) _ (s .pre)) _ _ (room (c .before .before .before .before .before .before .before .before))
     (c .before .before .copy .ensures)
 

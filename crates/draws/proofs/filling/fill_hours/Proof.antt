@@ -21,7 +21,8 @@ slice-write-list c = omega (arith, c .before .before .loop .inv .long)
 
 loop-again : tie.Need-loop-again Inv-loop μ-loop
 loop-again c =
-    hours-turn (c .before .before .before .loop .inv) _ _ (c .before .before .loop-test .taken) (c .before .hours .ensures) (c .next .ensures)
+    hours-turn (c .before .before .before .loop .inv) _ _ (c .before .before .loop-test .taken) (c .before .hours .ensures)
+    (c .next .ensures)
 
 returns : tie.Need-returns Inv-loop μ-loop
 returns c = hours-end (c .before .loop .inv) (omega arith)

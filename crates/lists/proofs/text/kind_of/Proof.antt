@@ -16,29 +16,49 @@ returns-2 c = rw (ne-eqb _ _ (c .before .before .if1 .left), ← c .before .whit
 
 returns-3 : tie.Need-returns-3
 returns-3 c =
-    rw
-    (ne-eqb _ _ (c .before .before .before .if1 .left), ← c .before .before .white .ensures, c .before .if2 .left, eq-eqb _ _ (c .if3 .taken))
+    rw (
+      ne-eqb _ _ (c .before .before .before .if1 .left),
+      ← c .before .before .white .ensures,
+      c .before .if2 .left,
+      eq-eqb _ _
+          (c .if3 .taken),
+    )
 
 sub-t5 : tie.Need-sub-t5
 sub-t5 c =
-    omega
-    (arith, leb-true 48 (c .before .before .before .before .before .before .args .b) (both-left _ _ (sym (c .before .within .ensures) ∙ c .if4 .taken)))
+    omega (
+      arith,
+      leb-true 48 (c .before .before .before .before .before .before .args .b)
+          (both-left _ _ (sym (c .before .within .ensures) ∙ c .if4 .taken)),
+    )
 
 returns-4 : tie.Need-returns-4
 returns-4 c =
     let within = c .before in
     let hash = c .before .before in
     let blank = c .before .before .before in
-    rw
-    (ne-eqb _ _ (c .before .before .before .before .before .if1 .left), ← c .before .before .before .before .white .ensures, blank .if2 .left, ne-eqb _ _ (hash .if3 .left), ← within .within .ensures, c .if4 .taken)
+    rw (
+      ne-eqb _ _ (c .before .before .before .before .before .if1 .left),
+      ← c .before .before .before .before .white .ensures,
+      blank .if2 .left,
+      ne-eqb _ _ (hash .if3 .left),
+      ← within .within .ensures,
+      c .if4 .taken,
+    )
 
 returns-5 : tie.Need-returns-5
 returns-5 c =
     let within = c .before in
     let hash = c .before .before in
     let blank = c .before .before .before in
-    rw
-    (ne-eqb _ _ (c .before .before .before .before .before .if1 .left), ← c .before .before .before .before .white .ensures, blank .if2 .left, ne-eqb _ _ (hash .if3 .left), ← within .within .ensures, c .if4 .left)
+    rw (
+      ne-eqb _ _ (c .before .before .before .before .before .if1 .left),
+      ← c .before .before .before .before .white .ensures,
+      blank .if2 .left,
+      ne-eqb _ _ (hash .if3 .left),
+      ← within .within .ensures,
+      c .if4 .left,
+    )
 
 pub kind-of-spec : {M : Type 1} → statement M
 kind-of-spec =

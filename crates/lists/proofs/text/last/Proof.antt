@@ -8,4 +8,5 @@ returns-3 : tie.Need-returns-3
 returns-3 c = rw (c .before .mode .given .1)
 
 pub last-spec : {M : Type 1} → statement M
-last-spec = tie.close (tie.spec (λ c. search needs) (λ c. search needs) (λ c. search needs) (λ c. search needs) (λ c. search needs) returns-3)
+last-spec = tie.close (tie.spec (λ c. search needs) (λ c. search needs) (λ c. search needs) (λ c. search needs) (λ c. search needs)
+    returns-3)

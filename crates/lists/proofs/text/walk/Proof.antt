@@ -7,7 +7,8 @@ use lib.Seq.{length-sets}
 use lib.ListN.{length}
 use borrow.Author.Needs.{needs}
 use Rattle.lists.specs.NumberText.{numbersIn}
-use Rattle.lists.proofs.NumberLaws.{reading-length, reading-last-room, Reading, reading-starts, reading-turns, reading-stops, reading-room, reading-done}
+use Rattle.lists.proofs.NumberLaws.{reading-length, reading-last-room, Reading, reading-starts, reading-turns, reading-stops}
+use Rattle.lists.proofs.NumberLaws.{reading-room, reading-done}
 use Rattle.lists.proofs.text.walk.Statement.{statement}
 use Rattle.lists.proofs.text.walk.Tie as tie
 
@@ -29,12 +30,17 @@ same-length c = reading-length (c .before .before .before .before .before .befor
 returns : tie.Need-returns Inv-loop μ-loop
 returns c =
     let kind = c .before .before .before .kind-of in
-    reading-stops (c .before .before .before .before .before .before .loop .inv .1) _ (kind .result) (omega arith) (kind .ensures) (sym (c .before .before .next-mode .ensures) ∙ c .enum-told .given .1)
+    reading-stops (c .before .before .before .before .before .before .loop .inv .1) _ (kind .result) (omega arith) (kind .ensures)
+    (sym (c .before .before .next-mode .ensures) ∙ c .enum-told .given .1)
 
 store-requires : tie.Need-store-requires Inv-loop μ-loop
 store-requires c κs =
     let goes = sym (c .before .before .before .before .before .next-mode .ensures) ∙ c .before .before .before .next .given .1 in
-    omega (arith, reading-room (c .before .before .before .before .before .before .before .before .before .loop .inv .1) (c .before .before .before .before .before .before .kind-of .result) _ (c .ended .result) goes (c .ended .ensures))
+    omega (
+      arith,
+      reading-room (c .before .before .before .before .before .before .before .before .before .loop .inv .1)
+          (c .before .before .before .before .before .before .kind-of .result) _ (c .ended .result) goes (c .ended .ensures),
+    )
 
 add-passed : tie.Need-add-passed Inv-loop μ-loop
 add-passed c =
@@ -45,11 +51,15 @@ loop-again : tie.Need-loop-again Inv-loop μ-loop
 loop-again c =
     let i = c .before .before .before .before .before .before .before .before .before .before .before .before .before .loop in
     let kind = c .before .before .before .before .before .before .before .before .before .before .kind-of in
-    let goes = sym (c .before .before .before .before .before .before .before .before .before .next-mode .ensures) ∙ c .before .before .before .before .before .before .before .next .given .1 in
+    let goes = sym (c .before .before .before .before .before .before .before .before .before .next-mode .ensures) ∙
+    c .before .before .before .before .before .before .before .next .given .1 in
     let e = c .before .before .before .before .ended .ensures in
     let stored = c .before .before .before .store .ensures in
-    let lines = ap (λ (n : ℕ). i .passed + n) (c .line-ends .ensures .0) in
-    (omega arith, reading-turns (i .inv .1) _ (kind .result) _ _ _ (omega arith) (kind .ensures) goes (rw e at (stored .1)) (rw e at (stored .0)) lines)
+    let lines = ap (λ (n : ℕ). i .passed + n) (c .line-ends .ensures .0) in (
+      omega arith,
+      reading-turns (i .inv .1) _ (kind .result) _ _ _ (omega arith) (kind .ensures) goes (rw e at (stored .1))
+          (rw e at (stored .0)) lines,
+    )
 
 store-requires-2 : tie.Need-store-requires-2 Inv-loop μ-loop
 store-requires-2 c κs =
@@ -58,13 +68,15 @@ store-requires-2 c κs =
 same-length-2 : tie.Need-same-length-2 Inv-loop μ-loop
 same-length-2 c =
     let i = c .before .before .before .before .before .before .loop in
-    ap length (c .before .before .store2 .ensures .1) ∙ length-sets (i .list) (i .count) (numbersIn (c .before .before .before .last .result)) ∙ reading-length (i .inv .1)
+    ap length (c .before .before .store2 .ensures .1) ∙ length-sets (i .list) (i .count)
+    (numbersIn (c .before .before .before .last .result)) ∙ reading-length (i .inv .1)
 
 returns-2 : tie.Need-returns-2 Inv-loop μ-loop
 returns-2 c =
     let stored = c .before .before .store2 .ensures in
     let last = c .before .before .before .last in
-    reading-done (c .before .before .before .before .before .before .loop .inv .1) _ (last .result) _ (omega arith) (last .ensures) (stored .1) (stored .0)
+    reading-done (c .before .before .before .before .before .before .loop .inv .1) _ (last .result) _ (omega arith) (last .ensures)
+    (stored .1) (stored .0)
 
 pub walk-spec : {M : Type 1} → statement M
 walk-spec =

@@ -16,7 +16,8 @@ use Rattle.marker.proofs.deal_faults.judge_deals.Statement.{statement}
 use Rattle.marker.proofs.deal_faults.judge_deals.Tie as tie
 
 abbrev Inv-loop2 : tie.InvT-loop2
-Inv-loop2 n m growers pilots tariff-cap free-cap joint-gain verdict₀ i grower j pilot deal₀ verdict deal = ((o : Origin n m growers pilots tariff-cap free-cap joint-gain) →
+Inv-loop2 n m growers pilots tariff-cap free-cap joint-gain verdict₀ i grower j pilot deal₀ verdict deal =
+    ((o : Origin n m growers pilots tariff-cap free-cap joint-gain) →
     none (dealFaultAt (ticketFrom o) (settlementFrom o)) (2 * (i * m + j) + dealNumber deal)) × (verdict ≡ Sound (2 * (n * m)))
 
 abbrev μ-loop2 : tie.MeasureT-loop2
@@ -43,24 +44,46 @@ abbrev From : tie.Start Inv-loop2 μ-loop2 Inv-loop μ-loop Inv-search μ-search
 From s = let a = s .args in Origin (a .n) (a .m) (a .t3) (a .t4) (a .t5) (a .t6) (a .t7)
 
 -- what was found of a deal is what the definition asks of it
-there : (c : tie.After-deal-fault Inv-loop2 μ-loop2 Inv-loop μ-loop Inv-search μ-search) (o : From (c .before .before .before .before .before .before .before .before .before .before .before .before)) →
-    let i = c .before .before .before .before .before .before .before .before .before .before .search .i in let j = c .before .before .before .before .before .before .before .loop .j in let d = c .before .before .before .before .loop2 .deal in
+there : (c : tie.After-deal-fault Inv-loop2 μ-loop2 Inv-loop μ-loop Inv-search μ-search)
+    (o : From (c .before .before .before .before .before .before .before .before .before .before .before .before)) →
+    let i = c .before .before .before .before .before .before .before .before .before .before .search .i in let j =
+    c .before .before .before .before .before .before .before .loop .j in let d = c .before .before .before .before .loop2 .deal in
     c .deal-fault .result ≡ foundIf (wrongDeal (ticketFrom o) (settlementFrom o) d i j)
-    (dealVerdict (ticketFrom o) (settlementFrom o) (2 * (i * c .before .before .before .before .before .before .before .before .before .before .before .before .args .m + j) + dealNumber d + 1) i j d)
+    (dealVerdict (ticketFrom o) (settlementFrom o)
+    (2 * (i * c .before .before .before .before .before .before .before .before .before .before .before .before .args .m + j) +
+    dealNumber d + 1) i j d)
 there c o = c .deal-fault .ensures
-    ∙ deal-found-is o (c .before .before .before .before .before .before .before .before .before .before .search .i) (c .before .before .before .before .before .before .before .loop .j) (c .before .before .before .before .before .before .before .before .before .search-test .taken) (c .before .before .before .before .before .before .loop-test .taken) (c .before .before .before .before .loop2 .deal)
+    ∙ deal-found-is o (c .before .before .before .before .before .before .before .before .before .before .search .i)
+    (c .before .before .before .before .before .before .before .loop .j)
+    (c .before .before .before .before .before .before .before .before .before .search-test .taken)
+    (c .before .before .before .before .before .before .loop-test .taken) (c .before .before .before .before .loop2 .deal)
 
 -- a deal that is passed by
-passed : (c : tie.After-enum-told Inv-loop2 μ-loop2 Inv-loop μ-loop Inv-search μ-search) (o : From (c .before .before .before .before .before .before .before .before .before .before .before .before .before .before)) →
-    none (dealFaultAt (ticketFrom o) (settlementFrom o)) (2 * (c .before .before .before .before .before .before .before .before .before .before .before .before .search .i * c .before .before .before .before .before .before .before .before .before .before .before .before .before .before .args .m + c .before .before .before .before .before .before .before .before .before .loop .j) + dealNumber (c .before .before .before .before .before .before .loop2 .deal) + 1)
-passed c o = deal-passed (ticketFrom o) (settlementFrom o) (c .before .before .before .before .before .before .before .before .before .before .before .before .search .i) (c .before .before .before .before .before .before .before .before .before .loop .j) (c .before .before .before .before .before .before .before .before .before .before .before .search-test .taken) (c .before .before .before .before .before .before .before .before .loop-test .taken)
-    (c .before .before .before .before .before .before .loop2 .deal) (c .before .before .before .before .before .before .loop2 .inv .0 o) _ (there (c .before .before) o) (c .enum-told .given .1)
+passed : (c : tie.After-enum-told Inv-loop2 μ-loop2 Inv-loop μ-loop Inv-search μ-search)
+    (o : From (c .before .before .before .before .before .before .before .before .before .before .before .before .before .before)) →
+    none (dealFaultAt (ticketFrom o) (settlementFrom o))
+    (2 * (c .before .before .before .before .before .before .before .before .before .before .before .before .search .i *
+    c .before .before .before .before .before .before .before .before .before .before .before .before .before .before .args .m +
+    c .before .before .before .before .before .before .before .before .before .loop .j) + dealNumber
+    (c .before .before .before .before .before .before .loop2 .deal) + 1)
+passed c o = deal-passed (ticketFrom o) (settlementFrom o)
+    (c .before .before .before .before .before .before .before .before .before .before .before .before .search .i)
+    (c .before .before .before .before .before .before .before .before .before .loop .j)
+    (c .before .before .before .before .before .before .before .before .before .before .before .search-test .taken)
+    (c .before .before .before .before .before .before .before .before .loop-test .taken)
+    (c .before .before .before .before .before .before .loop2 .deal)
+    (c .before .before .before .before .before .before .loop2 .inv .0 o) _ (there (c .before .before) o) (c .enum-told .given .1)
 
 mul-t22 : tie.Need-mul-t22 Inv-loop2 μ-loop2 Inv-loop μ-loop Inv-search μ-search
 mul-t22 c = omega (arith, c .pairs .ensures .2)
 
 search-holds : tie.Need-search-holds Inv-loop2 μ-loop2 Inv-loop μ-loop Inv-search μ-search
-search-holds c = (omega arith, (λ o q h. absurd (omega arith)), ap (λ (k : ℕ). Sound (2 * k)) (c .pairs .ensures .1 (omega arith) (omega arith)))
+search-holds c = (
+  omega arith,
+  (λ o q h. absurd (omega arith)),
+  ap (λ (k : ℕ). Sound (2 * k))
+      (c .pairs .ensures .1 (omega arith) (omega arith)),
+)
 
 loop-holds : tie.Need-loop-holds Inv-loop2 μ-loop2 Inv-loop μ-loop Inv-search μ-search
 loop-holds c = (omega arith, (λ o. none-le _ _ _ (c .before .before .search .inv .1 o) (omega arith)), c .before .before .search .inv .2)
@@ -72,13 +95,30 @@ loop2-less : tie.Need-loop2-less Inv-loop2 μ-loop2 Inv-loop μ-loop Inv-search 
 loop2-less c = let e = ap dealNumber (c .enum-told2 .given .1) in omega arith
 
 loop2-again : tie.Need-loop2-again Inv-loop2 μ-loop2 Inv-loop μ-loop Inv-search μ-search
-loop2-again c = ((λ o. none-le _ _ _ (passed (c .before .before) o) (omega (arith, ap dealNumber (c .enum-told2 .given .1)))), c .before .before .before .before .before .before .before .before .loop2 .inv .1)
+loop2-again c = (
+  (λ o. none-le _ _ _ (passed (c .before .before) o) (omega (arith, ap dealNumber (c .enum-told2 .given .1)))),
+  c .before .before .before .before .before .before .before .before .loop2 .inv .1,
+)
 
 loop-again : tie.Need-loop-again Inv-loop2 μ-loop2 Inv-loop μ-loop Inv-search μ-search
-loop-again c = (omega arith, (λ o. none-le _ _ _ (passed (c .before .before) o) (omega (arith, ap dealNumber (c .enum-told3 .given .1)))), c .before .before .before .before .before .before .before .before .loop2 .inv .1)
+loop-again c = (
+  omega arith,
+  (λ o. none-le _ _ _ (passed (c .before .before) o)
+      (omega (arith, ap dealNumber (c .enum-told3 .given .1)))),
+  c .before .before .before .before .before .before .before .before .loop2 .inv .1,
+)
 
 search-again : tie.Need-search-again Inv-loop2 μ-loop2 Inv-loop μ-loop Inv-search μ-search
-search-again c = (omega arith, (λ o. none-le _ _ _ (c .before .loop .inv .1 o) (omega (arith, row-next (c .before .before .before .before .search .i) (c .before .before .before .before .before .before .args .m)))), c .before .loop .inv .2)
+search-again c = (
+  omega arith,
+  (λ o. none-le _ _ _ (c .before .loop .inv .1 o)
+      (omega (
+        arith,
+        row-next (c .before .before .before .before .search .i)
+            (c .before .before .before .before .before .before .args .m),
+      ))),
+  c .before .loop .inv .2,
+)
 
 returns : tie.Need-returns Inv-loop2 μ-loop2 Inv-loop μ-loop Inv-search μ-search
 returns c =
@@ -91,7 +131,8 @@ returns-2 : tie.Need-returns-2 Inv-loop2 μ-loop2 Inv-loop μ-loop Inv-search μ
 returns-2 c =
     λ o. let s = c .before .before .before in
     deal-judged (ticketFrom o) (settlementFrom o) (s .before .before .before .before .before .before .before .before .before .before .search .i) (s .before .before .before .before .before .before .before .loop .j) (s .before .before .before .before .before .before .before .before .before .search-test .taken) (s .before .before .before .before .before .before .loop-test .taken)
-    (s .before .before .before .before .loop2 .deal) (s .before .before .before .before .loop2 .inv .0 o) _ (there s o) _ (c .before .found .given .1)
+    (s .before .before .before .before .loop2 .deal) (s .before .before .before .before .loop2 .inv .0 o) _ (there s o) _
+    (c .before .found .given .1)
 
 pub judge-deals-spec : {M : Type 1} → statement M
 judge-deals-spec =

@@ -8,8 +8,14 @@ use Rattle.marker.proofs.judging.judge.Tie as tie
 
 judge-squares-requires : tie.Need-judge-squares-requires
 judge-squares-requires c κs =
-    let s = c .before .before .before .before .before .before .before .before .before .before .before .before .before .before in
-    (omega (arith, c .before .before .before .before .before .before .before .before .before .before .before .growers .ensures .0, s .pre .0), omega (arith, c .before .before .before .before .before .before .before .before .before .before .pilots .ensures .0, s .pre .0))
+    let s = c .before .before .before .before .before .before .before .before .before .before .before .before .before .before in (
+      omega (
+        arith,
+        c .before .before .before .before .before .before .before .before .before .before .before .growers .ensures .0,
+        s .pre .0,
+      ),
+      omega (arith, c .before .before .before .before .before .before .before .before .before .before .pilots .ensures .0, s .pre .0),
+    )
 
 returns : tie.Need-returns
 returns c =
@@ -18,7 +24,8 @@ returns c =
     let g = c .before .before .before .before .before .before .before .before .before .before .before .before .growers .ensures .0 in
     let p = c .before .before .before .before .before .before .before .before .before .before .before .pilots .ensures .0 in
     c .judge-squares .ensures
-    ∙ judged-lists (a .ticket .now) (a .settlement .now) _ _ g p (omega (arith, g, s .pre .0)) (omega (arith, p, s .pre .0)) (s .pre .1 .0) (s .pre .1 .1)
+    ∙ judged-lists (a .ticket .now) (a .settlement .now) _ _ g p (omega (arith, g, s .pre .0)) (omega (arith, p, s .pre .0))
+    (s .pre .1 .0) (s .pre .1 .1)
     (record {
       growerHoursIn = c .before .before .before .before .before .before .before .before .before .before .grower-hours .ensures;
       pilotHoursIn = c .before .before .before .before .before .before .before .before .before .pilot-hours .ensures;

@@ -12,7 +12,8 @@ use Rattle.marker.proofs.judging.judge_squares.Tie as tie
 returns : tie.Need-returns
 returns c =
     let a = c .before .before .before .before .args in
-    let t = ticketIn (a .n) (a .m) (a .grower-hours) (a .pilot-hours) (a .tariff-cap) (a .tariff-gain) (a .tariff-pay) (a .free-cap) (a .joint-gain) in
+    let t = ticketIn (a .n) (a .m) (a .grower-hours) (a .pilot-hours) (a .tariff-cap) (a .tariff-gain) (a .tariff-pay) (a .free-cap)
+    (a .joint-gain) in
     let x = settlementIn (a .tariff-hours) (a .free-deal-hours) (a .pay) in
     walk-fault (pairFaultAt t x) (a .n * a .m) (byPair (pairVerdict t x) (a .m)) (hoursJudged t x) _ _
     (c .before .before .before .first-pair-fault .ensures) (c .before .found .given .1)
@@ -20,9 +21,11 @@ returns c =
 returns-2 : tie.Need-returns-2
 returns-2 c =
     let a = c .before .before .before .before .before .before .args in
-    let t = ticketIn (a .n) (a .m) (a .grower-hours) (a .pilot-hours) (a .tariff-cap) (a .tariff-gain) (a .tariff-pay) (a .free-cap) (a .joint-gain) in
+    let t = ticketIn (a .n) (a .m) (a .grower-hours) (a .pilot-hours) (a .tariff-cap) (a .tariff-gain) (a .tariff-pay) (a .free-cap)
+    (a .joint-gain) in
     let x = settlementIn (a .tariff-hours) (a .free-deal-hours) (a .pay) in
-    let o : Origin (a .n) (a .m) (c .before .before .all-growers .result) (c .before .all-pilots .result) (a .tariff-cap) (a .free-cap) (a .joint-gain) = record {
+    let o : Origin (a .n) (a .m) (c .before .before .all-growers .result) (c .before .all-pilots .result) (a .tariff-cap) (a .free-cap)
+    (a .joint-gain) = record {
       growerHours = a .grower-hours;
       pilotHours = a .pilot-hours;
       tariffGain = a .tariff-gain;

@@ -37,14 +37,18 @@ abbrev the-settlement : tie.Start Inv-loop2 μ-loop2 Inv-loop μ-loop → Settle
 the-settlement s = let a = s .args in settlementIn (a .t6) (a .t7) (a .t8)
 
 -- what was found of a pair is what the walk asks of its place
-there : (c : tie.After-pair-fault Inv-loop2 μ-loop2 Inv-loop μ-loop) → let s = c .before .before .before .before .before .before .before .before .before .before .before in
+there : (c : tie.After-pair-fault Inv-loop2 μ-loop2 Inv-loop μ-loop) → let s =
+    c .before .before .before .before .before .before .before .before .before .before .before in
     let t = the-ticket s in
     let x = the-settlement s in
-    let p = c .before .before .before .before .before .before .before .before .before .before .loop .i * s .args .m + c .before .before .before .before .before .before .before .before .loop2 .j in
+    let p = c .before .before .before .before .before .before .before .before .before .before .loop .i * s .args .m +
+    c .before .before .before .before .before .before .before .before .loop2 .j in
     c .pair-fault .result ≡ foundIf (pairFaultAt t x p) (byPair (pairVerdict t x) (s .args .m) p)
 there c = let s = c .before .before .before .before .before .before .before .before .before .before .before in
     pair-found (the-ticket s) (the-settlement s)
-    (c .before .before .before .before .before .before .before .before .before .before .loop .i) (c .before .before .before .before .before .before .before .before .loop2 .j) (c .before .before .before .before .before .before .before .loop2-test .taken) _ (c .pair-fault .ensures)
+    (c .before .before .before .before .before .before .before .before .before .before .loop .i)
+    (c .before .before .before .before .before .before .before .before .loop2 .j)
+    (c .before .before .before .before .before .before .before .loop2-test .taken) _ (c .pair-fault .ensures)
 
 loop-holds : tie.Need-loop-holds Inv-loop2 μ-loop2 Inv-loop μ-loop
 loop-holds c = (omega arith, λ q h. absurd (omega arith))
@@ -57,22 +61,38 @@ returns c =
     let s = c .before .before .before in
     let a = s .before .before .before .before .before .before .before .before .before .before .before .args in
     let h = found-holds _ _ _ _ (there s) (c .before .found .given .1) in
-    found-first _ (a .n * a .m) (byPair (pairVerdict (the-ticket (s .before .before .before .before .before .before .before .before .before .before .before)) (the-settlement (s .before .before .before .before .before .before .before .before .before .before .before))) (a .m)) _ (s .before .before .before .before .before .before .before .before .loop2 .inv .1)
-    (omega (arith, row-within (s .before .before .before .before .before .before .before .before .before .before .loop .i) (a .n) (a .m) (s .before .before .before .before .before .before .before .before .before .loop-test .taken), s .before .before .before .before .before .before .before .loop2-test .taken)) (h .0) _ (h .1)
+    found-first _ (a .n * a .m) (byPair (pairVerdict
+    (the-ticket (s .before .before .before .before .before .before .before .before .before .before .before))
+    (the-settlement (s .before .before .before .before .before .before .before .before .before .before .before))) (a .m)) _
+    (s .before .before .before .before .before .before .before .before .loop2 .inv .1)
+    (omega (
+      arith,
+      row-within (s .before .before .before .before .before .before .before .before .before .before .loop .i) (a .n) (a .m)
+          (s .before .before .before .before .before .before .before .before .before .loop-test .taken),
+      s .before .before .before .before .before .before .before .loop2-test .taken,
+    )) (h .0) _ (h .1)
 
 loop2-again : tie.Need-loop2-again Inv-loop2 μ-loop2 Inv-loop μ-loop
 loop2-again c =
-    let s = c .before .before in
-    (omega arith, none-le _ _ _ (none-more _ _ (s .before .before .before .before .before .before .before .before .loop2 .inv .1) (found-fails _ _ _ (there s) (c .enum-told .given .1))) (omega arith))
+    let s = c .before .before in (
+      omega arith,
+      none-le _ _ _ (none-more _ _ (s .before .before .before .before .before .before .before .before .loop2 .inv .1)
+          (found-fails _ _ _ (there s) (c .enum-told .given .1))) (omega arith),
+    )
 
 loop-again : tie.Need-loop-again Inv-loop2 μ-loop2 Inv-loop μ-loop
-loop-again c = (omega arith, none-le _ _ _ (c .before .loop2 .inv .1) (omega (arith, row-next (c .before .before .before .loop .i) (c .before .before .before .before .args .m))))
+loop-again c = (
+  omega arith,
+  none-le _ _ _ (c .before .loop2 .inv .1)
+      (omega (arith, row-next (c .before .before .before .loop .i) (c .before .before .before .before .args .m))),
+)
 
 returns-2 : tie.Need-returns-2 Inv-loop2 μ-loop2 Inv-loop μ-loop
 returns-2 c =
     let a = c .before .before .args in
     let e : c .before .loop .i ≡ a .n = omega arith in
-    found-none _ _ (byPair (pairVerdict (the-ticket (c .before .before)) (the-settlement (c .before .before))) (a .m)) (none-le _ _ _ (c .before .loop .inv .1) (omega (arith, ap (λ (k : ℕ). k * a .m) e)))
+    found-none _ _ (byPair (pairVerdict (the-ticket (c .before .before)) (the-settlement (c .before .before))) (a .m))
+    (none-le _ _ _ (c .before .loop .inv .1) (omega (arith, ap (λ (k : ℕ). k * a .m) e)))
 
 pub first-pair-fault-spec : {M : Type 1} → statement M
 first-pair-fault-spec =

@@ -7,8 +7,11 @@ use Rattle.marker.proofs.parties.all_pilots.Tie as tie
 returns : tie.Need-returns
 returns c =
     let a = c .before .before .before .before .before .args in
-    λ j hj. pilot-is (a .n) (a .m) (c .before .before .before .before .before .pre .0) (c .before .before .before .before .before .pre .1) (a .hours) (a .tariff-hours) (a .free-deal-hours) (a .tariff-pay) (a .pay) _ _ _ _
-    (c .before .before .before .before .turned .ensures) (c .before .before .before .turned2 .ensures) (c .before .before .turned3 .ensures) (c .before .turned4 .ensures) j hj _ (c .parties .ensures j hj)
+    λ j hj. pilot-is (a .n) (a .m) (c .before .before .before .before .before .pre .0)
+    (c .before .before .before .before .before .pre .1) (a .hours) (a .tariff-hours) (a .free-deal-hours) (a .tariff-pay)
+    (a .pay) _ _ _ _
+    (c .before .before .before .before .turned .ensures) (c .before .before .before .turned2 .ensures)
+    (c .before .before .turned3 .ensures) (c .before .turned4 .ensures) j hj _ (c .parties .ensures j hj)
 
 pub all-pilots-spec : {M : Type 1} → statement M
 all-pilots-spec =

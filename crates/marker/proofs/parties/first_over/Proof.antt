@@ -21,10 +21,15 @@ loop-holds : tie.Need-loop-holds Inv-loop μ-loop
 loop-holds c = (omega arith, none-zero _)
 
 returns : tie.Need-returns Inv-loop μ-loop
-returns c = sym (first-is _ _ _ (omega arith) (c .before .before .before .before .before .loop .inv .1) (λ _. rw (c .before .before .wide .ensures .0) at (lt-ltb _ _ (c .if1 .taken))))
+returns c = sym (first-is _ _ _ (omega arith) (c .before .before .before .before .before .loop .inv .1)
+    (λ _. rw (c .before .before .wide .ensures .0) at (lt-ltb _ _ (c .if1 .taken))))
 
 loop-again : tie.Need-loop-again Inv-loop μ-loop
-loop-again c = (omega arith, none-more _ _ (c .before .before .before .before .before .loop .inv .1) (rw (c .before .before .wide .ensures .0) at (le-ltb _ _ (c .if1 .left))))
+loop-again c = (
+  omega arith,
+  none-more _ _ (c .before .before .before .before .before .loop .inv .1)
+      (rw (c .before .before .wide .ensures .0) at (le-ltb _ _ (c .if1 .left))),
+)
 
 returns-2 : tie.Need-returns-2 Inv-loop μ-loop
 returns-2 c = sym (first-is _ _ _ (omega arith) (none-le _ _ _ (c .before .loop .inv .1) (omega arith)) (λ h. absurd (omega arith)))

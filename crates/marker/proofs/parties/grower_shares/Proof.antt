@@ -27,14 +27,22 @@ loop2-holds c = (omega arith, λ before p. p)
 
 loop2-again : tie.Need-loop2-again Inv-loop2 μ-loop2 Inv-loop μ-loop
 loop2-again c =
-    let row = c .before .before .before .before .loop2 .inv .1 in
-    (omega arith, λ before p. part-put _ _ _ _ _ _ _ (omega arith) (omega arith) (omega arith) (omega arith) (c .less .ensures) (row before p))
+    let row = c .before .before .before .before .loop2 .inv .1 in (
+      omega arith,
+      λ before p. part-put _ _ _ _ _ _ _ (omega arith) (omega arith) (omega arith) (omega arith) (c .less .ensures)
+          (row before p),
+    )
 
 loop-again : tie.Need-loop-again Inv-loop2 μ-loop2 Inv-loop μ-loop
-loop-again c = (omega arith, part-row _ _ _ _ _ _ (omega arith) (omega arith) (c .before .loop2 .inv .1 _ (c .before .before .before .loop .inv .1)))
+loop-again c = (
+  omega arith,
+  part-row _ _ _ _ _ _ (omega arith) (omega arith)
+      (c .before .loop2 .inv .1 _ (c .before .before .before .loop .inv .1)),
+)
 
 returns : tie.Need-returns Inv-loop2 μ-loop2 Inv-loop μ-loop
-returns c = filled-zeros _ _ _ _ _ (c .before .before .zeros .ensures .1) (part-end _ _ _ _ _ _ (omega arith) (omega arith) (c .before .loop .inv .1))
+returns c = filled-zeros _ _ _ _ _ (c .before .before .zeros .ensures .1)
+    (part-end _ _ _ _ _ _ (omega arith) (omega arith) (c .before .loop .inv .1))
 
 pub grower-shares-spec : {M : Type 1} → statement M
 grower-shares-spec =

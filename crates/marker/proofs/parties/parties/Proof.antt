@@ -19,7 +19,11 @@ loop-holds : tie.Need-loop-holds Inv-loop μ-loop
 loop-holds c = (omega arith, made-start _ _ _ (c .no-parties .ensures))
 
 loop-again : tie.Need-loop-again Inv-loop μ-loop
-loop-again c = (omega arith, made-put _ _ _ _ _ (omega arith) (c .party .ensures) (c .before .before .before .before .before .before .loop .inv .1))
+loop-again c = (
+  omega arith,
+  made-put _ _ _ _ _ (omega arith) (c .party .ensures)
+      (c .before .before .before .before .before .before .loop .inv .1),
+)
 
 returns : tie.Need-returns Inv-loop μ-loop
 returns c = made-all _ _ _ _ _ (omega arith) (c .before .loop .inv .1)

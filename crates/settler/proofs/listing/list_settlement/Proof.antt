@@ -11,7 +11,8 @@ use Rattle.settler.proofs.listing.list_settlement.Statement.{statement}
 use Rattle.settler.proofs.listing.list_settlement.Tie as tie
 
 abbrev Inv-loop : tie.InvT-loop
-Inv-loop list₀ growers pilots tariff-hours free-deal-hours pay pairs k₀ list k = (k ≤ pairs) × ListedTo growers pilots tariff-hours free-deal-hours pay k list
+Inv-loop list₀ growers pilots tariff-hours free-deal-hours pay pairs k₀ list k = (k ≤ pairs) × ListedTo growers pilots tariff-hours
+    free-deal-hours pay k list
 
 abbrev μ-loop : tie.MeasureT-loop
 μ-loop list₀ growers pilots tariff-hours free-deal-hours pay pairs k₀ list k = pairs - k
@@ -37,7 +38,8 @@ mul-pairs c =
 loop-holds : tie.Need-loop-holds Inv-loop μ-loop
 loop-holds c = (
   search needs,
-  listed-start _ _ _ _ _ _ _ _ _ (c .before .before .before .before .pre .0) (c .before .before .count .ensures) (c .before .count2 .ensures) (c .write-three .ensures),
+  listed-start _ _ _ _ _ _ _ _ _ (c .before .before .before .before .pre .0) (c .before .before .count .ensures)
+      (c .before .count2 .ensures) (c .write-three .ensures),
 )
 
 div-i : tie.Need-div-i Inv-loop μ-loop
@@ -99,7 +101,8 @@ add-k c = let w = turn (c .before .before .before .before .before) in omega arit
 loop-again : tie.Need-loop-again Inv-loop μ-loop
 loop-again c = (
   search needs,
-  listed-more _ _ _ _ _ _ _ _ _ _ _ (λ k. refl) (c .write-three2 .ensures) (c .before .before .before .before .before .before .loop .inv .1),
+  listed-more _ _ _ _ _ _ _ _ _ _ _ (λ k. refl) (c .write-three2 .ensures)
+      (c .before .before .before .before .before .before .loop .inv .1),
 )
 
 returns : tie.Need-returns Inv-loop μ-loop

@@ -9,7 +9,12 @@ use Rattle.sheets.proofs.lines.counted.Tie as tie
 
 put-requires : tie.Need-put-requires
 put-requires c κs =
-    omega (arith, decimal-short (c .before .before .before .before .before .before .args .n), c .before .count .ensures .ends, c .before .before .before .word .ensures .ends)
+    omega (
+      arith,
+      decimal-short (c .before .before .before .before .before .before .args .n),
+      c .before .count .ensures .ends,
+      c .before .before .before .word .ensures .ends,
+    )
 
 returns : tie.Need-returns
 returns c =

@@ -27,8 +27,11 @@ put-requires c κs =
 
 loop-again : tie.Need-loop-again Inv-loop μ-loop
 loop-again c =
-    let i = c .before .before .before .before .loop in
-    (omega arith, wrote-more (c .before .before .before .before .before .before .args .bytes .now) (i .k) (i .inv .1) _ _ _ (omega arith) refl (c .put .ensures))
+    let i = c .before .before .before .before .loop in (
+      omega arith,
+      wrote-more (c .before .before .before .before .before .before .args .bytes .now) (i .k) (i .inv .1) _ _ _
+          (omega arith) refl (c .put .ensures),
+    )
 
 returns : tie.Need-returns Inv-loop μ-loop
 returns c =

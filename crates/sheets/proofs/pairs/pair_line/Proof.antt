@@ -19,7 +19,8 @@ amounts-requires c κs =
 returns-2 : tie.Need-returns-2
 returns-2 c =
     let numbers = c .before .before .before .before .before .before .before .args .numbers .now in
-    wrote-line (getD numbers 2 0) (getD numbers 5 0) numbers _ (c .before .before .before .before .no-hours .ensures) (c .before .before .before .if1 .left) (c .amounts .ensures)
+    wrote-line (getD numbers 2 0) (getD numbers 5 0) numbers _ (c .before .before .before .before .no-hours .ensures)
+    (c .before .before .before .if1 .left) (c .amounts .ensures)
 
 pub pair-line-spec : {M : Type 1} → statement M
 pair-line-spec =

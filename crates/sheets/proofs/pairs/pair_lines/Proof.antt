@@ -45,7 +45,8 @@ pair-line-requires c κs =
     let q = c .before .before .before in
     let s = q .before .before .before in
     let a = s .args in
-    turn-fits (a .tariff-hours) (a .tariff-gain) (a .tariff-pay) (a .free-deal-hours) (a .joint-gain) (a .pay) _ (a .pilots) (q .before .loop .p) _ _
+    turn-fits (a .tariff-hours) (a .tariff-gain) (a .tariff-pay) (a .free-deal-hours) (a .joint-gain) (a .pay) _ (a .pilots)
+    (q .before .loop .p) _ _
     (pair q) (s .pre .1) (c .before .before .pair-numbers .ensures) (omega (arith, q .before .before .pairs .ensures .2))
     (s .pre .0 .2) (q .before .loop .inv .1)
 
@@ -54,7 +55,8 @@ loop-again c =
     let q = c .before .before .before .before in
     let a = q .before .before .before .args in (
       omega arith,
-      turn-writes (a .tariff-hours) (a .tariff-gain) (a .tariff-pay) (a .free-deal-hours) (a .joint-gain) (a .pay) (a .pilots) (q .before .loop .p) _
+      turn-writes (a .tariff-hours) (a .tariff-gain) (a .tariff-pay) (a .free-deal-hours) (a .joint-gain) (a .pay) (a .pilots)
+          (q .before .loop .p) _
           (c .before .before .before .pair-numbers .ensures) (q .before .loop .inv .1) (c .pair-line .ensures),
     )
 

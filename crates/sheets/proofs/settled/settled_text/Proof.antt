@@ -13,17 +13,23 @@ header-requires c κs =
     let t = c .before .before .before .before .before .pre .paired .settles in
     (omega (arith, c .before .entry .ensures, few-growers t), omega (arith, c .entry2 .ensures, few-pilots t))
 
-headed : (c : tie.After-header) → Wrote (c .before .before .before .before .before .before .args .page .now) (c .header .last .0) 0 (c .header .result) (headOf (c .before .before .before .before .before .before .args .ticket .now))
+headed : (c : tie.After-header) → Wrote (c .before .before .before .before .before .before .args .page .now) (c .header .last .0) 0
+    (c .header .result) (headOf (c .before .before .before .before .before .before .args .ticket .now))
 headed c = rw (c .before .before .entry .ensures, c .before .entry2 .ensures) at (c .header .ensures)
 
 lines-between-requires : tie.Need-lines-between-requires
-lines-between-requires c κs =
-    (c .before .before .before .before .before .before .before .pre .paired, head-short (c .before .before .before .before .before .before .before .args .ticket .now) (headed (c .before)))
+lines-between-requires c κs = (
+  c .before .before .before .before .before .before .before .pre .paired,
+  head-short
+      (c .before .before .before .before .before .before .before .args .ticket .now) (headed (c .before)),
+)
 
 counted-requires : tie.Need-counted-requires
 counted-requires c κs =
     let q = c .before .before .before .before in
-    last-fits (q .before .before .before .before .before .before .pre) (head-short (q .before .before .before .before .before .before .args .ticket .now) (headed q)) (c .before .before .lines-between .ensures)
+    last-fits (q .before .before .before .before .before .before .pre)
+    (head-short (q .before .before .before .before .before .before .args .ticket .now) (headed q))
+    (c .before .before .lines-between .ensures)
 
 returns : tie.Need-returns
 returns c =

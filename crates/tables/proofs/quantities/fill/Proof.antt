@@ -31,7 +31,8 @@ loop2-holds c = (omega arith, λ before p. p)
 loop2-again : tie.Need-loop2-again Inv-loop2 μ-loop2 Inv-loop μ-loop
 loop2-again c = (
   omega arith,
-  λ before p. part-put _ _ _ _ _ _ _ (omega arith) (omega arith) (omega arith) (omega arith) (c .quantity-at .ensures) (c .before .before .loop2 .inv .1 before p),
+  λ before p. part-put _ _ _ _ _ _ _ (omega arith) (omega arith) (omega arith) (omega arith) (c .quantity-at .ensures)
+      (c .before .before .loop2 .inv .1 before p),
 )
 
 loop-again : tie.Need-loop-again Inv-loop2 μ-loop2 Inv-loop μ-loop
@@ -42,7 +43,8 @@ returns : tie.Need-returns Inv-loop2 μ-loop2 Inv-loop μ-loop
 returns c =
     let s = c .before .before .before .before .before .before .before .before .before in
     let list = s .args .list .now in
-    filled-as _ (quantityOf (s .args .quantity) list) (c .before .before .before .before .within .result) (c .before .before .within2 .result)
+    filled-as _ (quantityOf (s .args .quantity) list) (c .before .before .before .before .within .result)
+    (c .before .before .within2 .result)
     (min 16 (growersOf list)) (min 16 (pilotsOf list)) _ (omega arith) (omega arith)
     (part-end _ _ _ _ _ _ (omega arith) (omega arith) (c .before .loop .inv .1))
 

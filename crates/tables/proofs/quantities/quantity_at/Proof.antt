@@ -7,7 +7,8 @@ use Rattle.tables.proofs.quantities.quantity_at.Tie as tie
 returns : tie.Need-returns
 returns c =
     let a = c .before .before .before .before .before .args in
-    quantity-at (a .quantity) (a .list .now) _ _ (a .i) (a .j) _ _ (c .before .before .before .growers .ensures .0) (c .before .before .pilots .ensures .0)
+    quantity-at (a .quantity) (a .list .now) _ _ (a .i) (a .j) _ _ (c .before .before .before .growers .ensures .0)
+    (c .before .before .pilots .ensures .0)
     (c .before .place .ensures) (c .entry .ensures)
 
 pub quantity-at-spec : {M : Type 1} → statement M

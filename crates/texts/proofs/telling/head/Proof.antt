@@ -10,7 +10,8 @@ use Rattle.texts.proofs.telling.head.Tie as tie
 spaced-requires-2 : tie.Need-spaced-requires-2
 spaced-requires-2 c κs =
     let s = c .before .before .before .before .before .before .before .before .before .before .before .before in
-    let first = room-after 5 8 (c .before .before .before .before .before .before .before .before .word .ensures) (omega arith) (omega (arith, s .pre .1)) in
+    let first = room-after 5 8 (c .before .before .before .before .before .before .before .before .word .ensures) (omega arith)
+    (omega (arith, s .pre .1)) in
     (omega (arith, s .pre .0 .grower), room-after 4 4 (c .before .before .before .spaced .ensures) (field-short _) first)
 
 spaced-requires-3 : tie.Need-spaced-requires-3

@@ -12,7 +12,8 @@ use Rattle.texts.proofs.telling.number.Statement.{statement}
 use Rattle.texts.proofs.telling.number.Tie as tie
 
 -- what is written
-digits-are : (c : tie.After-digits2) → take (c .before .before .decimal .result) (c .before .before .decimal .last .1 .0) ≡ decimal (c .before .before .before .before .before .args .n)
+digits-are : (c : tie.After-digits2) → take (c .before .before .decimal .result) (c .before .before .decimal .last .1 .0) ≡ decimal
+    (c .before .before .before .before .before .args .n)
 digits-are c =
     let s = c .before .before .before .before .before in
     let d = c .before .before .decimal in

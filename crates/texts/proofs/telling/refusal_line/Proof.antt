@@ -11,7 +11,8 @@ use Rattle.texts.proofs.telling.refusal_line.Tie as tie
 word-requires-2 : tie.Need-word-requires-2
 word-requires-2 c κs =
     let s = c .before .before .before .before .before .before .before .before .before .before .before .before in
-    let first = room-after 8 4 (c .before .before .before .before .before .before .before .before .word .ensures) (omega arith) (omega (arith, s .pre)) in
+    let first = room-after 8 4 (c .before .before .before .before .before .before .before .before .word .ensures) (omega arith)
+    (omega (arith, s .pre)) in
     room-after 3 1 (c .before .before .before .before .number .ensures) (decimal-short _) (omega arith)
 
 returns : tie.Need-returns

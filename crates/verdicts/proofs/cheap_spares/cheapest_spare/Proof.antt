@@ -10,7 +10,8 @@ returns c =
     let s = c .before .before .before .before .before in
     let a = s .before .args in
     rw (c .before .before .before .enum-told .given .1)
-    (spare-tariff (a .unused) (a .tariff) (a .free) (a .earned) (a .share) _ (a .partner) (omega arith) _ _ (s .count-in .ensures) _ _ (c .cheapest .ensures)
+    (spare-tariff (a .unused) (a .tariff) (a .free) (a .earned) (a .share) _ (a .partner) (omega arith) _ _ (s .count-in .ensures) _ _
+    (c .cheapest .ensures)
     (c .before .before .without .ensures) (c .before .without2 .ensures))
 
 returns-2 : tie.Need-returns-2
@@ -18,7 +19,8 @@ returns-2 c =
     let s = c .before .before .before .before .before in
     let a = s .before .args in
     rw (c .before .before .before .enum-told2 .given .1)
-    (spare-free (a .unused) (a .tariff) (a .free) (a .earned) (a .share) _ (a .partner) (omega arith) _ _ (s .count-in .ensures) _ _ (c .cheapest2 .ensures)
+    (spare-free (a .unused) (a .tariff) (a .free) (a .earned) (a .share) _ (a .partner) (omega arith) _ _ (s .count-in .ensures) _ _
+    (c .cheapest2 .ensures)
     (c .before .before .without3 .ensures) (c .before .without4 .ensures))
 
 pub cheapest-spare-spec : {M : Type 1} → statement M

@@ -4,7 +4,8 @@ use Rattle.verdicts.proofs.deal_faults.outweighs.Statement.{statement}
 use Rattle.verdicts.proofs.deal_faults.outweighs.Tie as tie
 
 returns : tie.Need-returns
-returns c = rw (c .before .before .before .enum-told .given .1, ← c .before .before .below .ensures, c .before .if1 .taken) (c .below2 .ensures)
+returns c = rw (c .before .before .before .enum-told .given .1, ← c .before .before .below .ensures, c .before .if1 .taken)
+    (c .below2 .ensures)
 
 returns-2 : tie.Need-returns-2
 returns-2 c = rw (c .before .before .enum-told .given .1, ← c .before .below .ensures, c .if1 .left)

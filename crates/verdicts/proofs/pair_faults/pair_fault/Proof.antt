@@ -16,12 +16,24 @@ returns-2 c =
 returns-3 : tie.Need-returns-3
 returns-3 c =
     let a = c .before .before .before .before .args in
-    rw (le-ltb (a .tariff-cap) (a .tariff-hours) (omega arith), le-ltb (a .free-cap) (a .free-deal-hours) (omega arith), ← c .before .wrong-pay .ensures, c .if3 .taken)
+    rw (
+      le-ltb (a .tariff-cap) (a .tariff-hours) (omega arith),
+      le-ltb (a .free-cap) (a .free-deal-hours) (omega arith),
+      ←
+          c .before .wrong-pay .ensures,
+      c .if3 .taken,
+    )
 
 returns-4 : tie.Need-returns-4
 returns-4 c =
     let a = c .before .before .before .before .args in
-    rw (le-ltb (a .tariff-cap) (a .tariff-hours) (omega arith), le-ltb (a .free-cap) (a .free-deal-hours) (omega arith), ← c .before .wrong-pay .ensures, c .if3 .left)
+    rw (
+      le-ltb (a .tariff-cap) (a .tariff-hours) (omega arith),
+      le-ltb (a .free-cap) (a .free-deal-hours) (omega arith),
+      ←
+          c .before .wrong-pay .ensures,
+      c .if3 .left,
+    )
 
 pub pair-fault-spec : {M : Type 1} → statement M
 pair-fault-spec = tie.close (tie.spec returns returns-2 (λ c κs. search needs) returns-3 returns-4)
