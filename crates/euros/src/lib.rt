@@ -1,21 +1,15 @@
 // Prices in eighteenths of a euro as whole euros: a price is moved up by a number and rounded down. The number is one that makes no
 // price whole, so that all are cut at a place where none of them lies.
 ghost use mathlib.Core.Path.{_≡_};
-ghost use Prim.Native.Nat.{_<_, _≤_, min};
+ghost use Prim.Native.Nat.{_≤_, min};
 ghost use Rattle.euros.specs.Euros.{eurosOf, clashOf, shiftOf};
-
-// A price at the width that it is moved up in.
-fn wide(x: u32) -> u64
-    ensures { λ r. ⌜ (r ≡ x) × (r < 4294967296) ⌝ }
-{
-    x as u64
-}
+use numbers::widest;
 
 // A price moved up by `shift`, in whole euros.
 pub fn whole_euros(price: u32, shift: u32) -> u32
     ensures { λ r. ⌜ r ≡ eurosOf price shift ⌝ }
 {
-    ((wide(price) + wide(shift)) / 18) as u32
+    ((widest(price) + widest(shift)) / 18) as u32
 }
 
 // The first pilot whose price, moved up by `shift`, is a whole number of euros; `pilots` if there is none.
@@ -24,7 +18,7 @@ fn clash(pilots: usize, price: [u32; 16], shift: u32) -> usize
     ensures { λ r. ⌜ r ≡ clashOf price pilots shift ⌝ }
 {
     for j in 0..pilots {
-        if (wide(price[j]) + wide(shift)) % 18 == 0 {
+        if (widest(price[j]) + widest(shift)) % 18 == 0 {
             return j;
         }
     }

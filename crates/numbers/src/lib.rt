@@ -2,7 +2,7 @@
 mod lists;
 
 ghost use mathlib.Core.Path.{_≡_};
-ghost use Prim.Native.Nat.{_*_, _-_, _<_, min};
+ghost use Prim.Native.Nat.{_*_, _-_, _<_, max, min};
 pub use lists::entry;
 pub use lists::front;
 pub use lists::settlement_list;
@@ -32,6 +32,13 @@ pub fn wide(x: u16) -> u32
     x as u32
 }
 
+// A wide number at the width that products of such are taken in.
+pub fn widest(x: u32) -> u64
+    ensures { λ r. ⌜ (r ≡ x) × (r < 4294967296) ⌝ }
+{
+    x as u64
+}
+
 // A number of a list as a count or a place.
 pub fn index(x: u16) -> usize
     ensures { λ r. ⌜ (r ≡ x) × (r < 65536) ⌝ }
@@ -50,4 +57,17 @@ pub fn less_wide(x: u32, y: u32) -> u32
     ensures { λ r. ⌜ r ≡ x - y ⌝ }
 {
     if x < y { 0 } else { x - y }
+}
+
+// The lesser and the greater of two wide numbers.
+pub fn least(x: u32, y: u32) -> u32
+    ensures { λ r. ⌜ r ≡ min x y ⌝ }
+{
+    if x < y { x } else { y }
+}
+
+pub fn most(x: u32, y: u32) -> u32
+    ensures { λ r. ⌜ r ≡ max x y ⌝ }
+{
+    if x < y { y } else { x }
 }

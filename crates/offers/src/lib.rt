@@ -1,6 +1,5 @@
 // What the deals of one pair offer its grower at the pilot's price, which of its hours are late, and how far it bears a rise of that
 // price. Each function answers on every input.
-mod arith;
 mod chances;
 mod late;
 mod limits;

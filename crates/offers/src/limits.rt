@@ -7,11 +7,11 @@ use crate::MANY;
 use crate::Slack;
 use crate::TOP;
 use crate::Terms;
-use crate::arith::least;
-use crate::arith::most;
 use crate::chances::free_chance;
 use crate::chances::tariff_chance;
+use numbers::least;
 use numbers::less_wide;
+use numbers::most;
 use numbers::wide;
 
 // The least that a free-deal hour with one pilot is worth to its grower, if the pilot is marked and there is one.
