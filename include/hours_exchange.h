@@ -1,5 +1,5 @@
 /*
- * The hours exchange for C and C++: tickets, settlements and sheets.
+ * The hours exchange for C and C++: tickets, settlements, accounts and sheets.
  *
  * The functions stand in the archive that `rt staticlib exchange_c` proves and
  * writes, target/staticlib/libexchange_c.a:
@@ -17,7 +17,7 @@
  * Buffers
  *
  * A buffer is passed as a pointer and a length. The length is the number of
- * elements: bytes for uint8_t, numbers for uint16_t. What the caller owes:
+ * elements: bytes for uint8_t, numbers for uint16_t and uint32_t. What the caller owes:
  *
  *   - the pointer is aligned for its type, and so many elements stand there;
  *     what is read was written before
@@ -49,10 +49,11 @@ extern "C" {
 #define EXCHANGE_TICKET_NUMBERS 1315   /* of exchange_unpack's list */
 #define EXCHANGE_SETTLEMENT_BYTES 1027 /* of exchange_settle's settlement */
 #define EXCHANGE_SHEET_BYTES 8216      /* of exchange_sheet's text */
+#define EXCHANGE_ACCOUNT_NUMBERS 48    /* of exchange_account's list */
 
 /*
- * Replies: the number that exchange_unpack, exchange_pack, exchange_settle and
- * exchange_sheet return. Below EXCHANGE_REFUSED it is how many elements were
+ * Replies: the number that exchange_unpack, exchange_pack, exchange_settle,
+ * exchange_sheet and exchange_account return. Below EXCHANGE_REFUSED it is how many elements were
  * written; otherwise it is EXCHANGE_REFUSED and the refusal's number.
  */
 #define EXCHANGE_REFUSED UINT32_C(65536)
@@ -96,6 +97,17 @@ uint32_t exchange_settle(const uint8_t *ticket, size_t ticket_length,
  */
 uint32_t exchange_sheet(const uint8_t *ticket, size_t ticket_length,
                         uint8_t *text, size_t text_length);
+
+/*
+ * Writes the account of a ticket and a sound settlement of it: what each grower
+ * gains in euros; then, for each pilot, what he is paid in euros and the
+ * commission on it in cents. Returns how many numbers that is, n + 2m. Refusals 1
+ * to 9 are about the ticket, 11 to 16 about the settlement; 17 says that the
+ * settlement is not sound, and 10, last, that the list is shorter than the account.
+ */
+uint32_t exchange_account(const uint8_t *ticket, size_t ticket_length,
+                          const uint8_t *settlement, size_t settlement_length,
+                          uint32_t *list, size_t list_length);
 
 /*
  * Marks a settlement against its ticket. Returns a mark, from which the functions

@@ -2,14 +2,16 @@
 
     python3 tools/reference.py crates/cases/stdin PROGRAM_OUTPUT > expected
 
-reads the cases and writes the report that is expected of them. Unpacking, packing and marking follow the words of the paper, with
+reads the cases and writes the report that is expected of them. Unpacking, packing, marking and accounts follow the words of the paper, with
 every spare listed one by one. For `settle` and for the `sheet` of a ticket that can be settled many answers are right: there the
 program's own answer is taken from PROGRAM_OUTPUT, judged, and written through only if it is a sound settlement, or the sheet of
 one. Otherwise a line says what is wrong. So the program is right if `expected` is the same as PROGRAM_OUTPUT.
 
 The head of crates/cases/stdin says how the cases are written. Python 3, without packages.
 """
+import fractions
 import itertools
+import math
 import sys
 
 TARIFF, FREE = "tariff", "free"
@@ -239,6 +241,31 @@ class Settlement:
         return "".join(line + "\n" for line in lines)
 
 
+    def account(self):
+        """Each grower's gain, then each pilot's pay and commission in cents."""
+        ticket = self.ticket
+        gains, pays = [0] * ticket.n, [0] * ticket.m
+        for (i, j), (tariff_hours, free_deal_hours, v) in self.rows.items():
+            _, a, b, _, c = ticket.terms[i, j]
+            gains[i] += tariff_hours * a + free_deal_hours * (c - v)
+            pays[j] += tariff_hours * b + free_deal_hours * v
+        return gains + [x for pay in pays for x in (pay, commission(pay))]
+
+
+def commission(euros):
+    """65 per mille of the first 200 euros, 42 of the next 600, 25 of the rest; added, then rounded to the cent, a half going up."""
+    per_mille_cents = 100 * (65 * min(euros, 200) + 42 * min(max(euros - 200, 0), 600) + 25 * max(euros - 800, 0))
+    return math.floor(fractions.Fraction(per_mille_cents, 1000) + fractions.Fraction(1, 2))
+
+
+def account(ticket_data, settlement_data):
+    ticket = Ticket(unpack(ticket_data))
+    settlement = Settlement(ticket, read_settlement(settlement_data, ticket.n, ticket.m))
+    if settlement.verdict()[0] != 1:
+        raise Refused(17)
+    return settlement.account()
+
+
 def mark(ticket_data, settlement_data):
     ticket = Ticket(unpack(ticket_data))
     return Settlement(ticket, read_settlement(settlement_data, ticket.n, ticket.m)).verdict()
@@ -305,6 +332,14 @@ def hex_byte(x):
 def verdict_line(work):
     try:
         return "  %d %d %d %s %d\n" % work()
+    except Refused as refusal:
+        return "  refused %d\n" % refusal.why
+
+
+def account_line(work):
+    try:
+        listed = work()
+        return "  done %d:%s\n" % (len(listed), "".join(" %d" % x for x in listed))
     except Refused as refusal:
         return "  refused %d\n" % refusal.why
 
@@ -380,10 +415,12 @@ def answer_to(line, own):
     """The expected answer to a line. `own` is the program's."""
     words = line.split(" ")
     operation = words[0]
-    if operation == "mark":
-        ticket, _, settlement = line[len("mark ") :].partition("/")
+    if operation in ("mark", "account"):
+        ticket, _, settlement = line[len(operation) + 1 :].partition("/")
         ticket, settlement = document(ticket, hexadecimal), document(settlement, hexadecimal)
-        return verdict_line(lambda: mark(ticket, settlement))
+        if operation == "mark":
+            return verdict_line(lambda: mark(ticket, settlement))
+        return account_line(lambda: account(ticket, settlement))
     heads = {"unpack": 1, "pack": 1, "read": 3, "write": 3, "settle": 1, "sheet": 1}
     if operation not in heads or len(words) <= heads[operation]:
         raise NotUnderstood

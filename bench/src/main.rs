@@ -6,6 +6,7 @@
 use std::time::Duration;
 
 use exchange_bench::draw::shapes::{Shape, random, shapes};
+use exchange_bench::plain::account::account_into;
 use exchange_bench::plain::settle::{Rises, Turns, settle, settle_ticket};
 use exchange_bench::plain::sheet::sheet;
 use exchange_bench::plain::ticket::{Ticket, pack, unpack};
@@ -15,6 +16,7 @@ use exchange_bench::table::{Table, ratio, time};
 use exchange_bench::timing::{FEWEST_SAMPLES, MOST_SAMPLES, SAMPLE, median_of_three, medians};
 
 /// Sizes that always suffice.
+const ACCOUNT_NUMBERS: usize = 48;
 const SETTLEMENT_BYTES: usize = 1027;
 const TICKET_BYTES: usize = 2083;
 const TICKET_NUMBERS: usize = 1315;
@@ -139,6 +141,7 @@ fn operations() -> Table {
             mark::mark(ticket, settlement).is_ok()
         })
     });
+    push("account", &|| account_times(&tickets));
     push("sheet", &|| sheet_times(&files));
     table
 }
@@ -162,17 +165,31 @@ fn pack_times(tickets: &[Ticket]) -> [Duration; 2] {
     )
 }
 
-/// Marking the settlements of these tickets.
-fn mark_times(tickets: &[Ticket], plain: impl Fn(&[u8], &[u8]) -> bool) -> [Duration; 2] {
+/// The files of these tickets, and of settlements of them.
+fn settled_files(tickets: &[Ticket]) -> Vec<(Vec<u8>, Vec<u8>)> {
     let settled = |ticket| settle_ticket(ticket, Rises::Jumps).0.bytes();
-    let files: Vec<_> = tickets
+    tickets
         .iter()
         .map(|ticket| (ticket.bytes(), settled(ticket)))
-        .collect();
+        .collect()
+}
+
+/// Marking the settlements of these tickets.
+fn mark_times(tickets: &[Ticket], plain: impl Fn(&[u8], &[u8]) -> bool) -> [Duration; 2] {
     mean_times(
-        &files,
+        &settled_files(tickets),
         |(ticket, settlement)| proved::mark(ticket, settlement).is_ok(),
         |(ticket, settlement)| plain(ticket, settlement),
+    )
+}
+
+/// Their accounts.
+fn account_times(tickets: &[Ticket]) -> [Duration; 2] {
+    let (mut one, mut other) = ([0; ACCOUNT_NUMBERS], [0; ACCOUNT_NUMBERS]);
+    mean_times(
+        &settled_files(tickets),
+        |(ticket, settlement)| proved::account(ticket, settlement, &mut one).is_ok(),
+        |(ticket, settlement)| account_into(ticket, settlement, &mut other).is_ok(),
     )
 }
 

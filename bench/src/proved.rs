@@ -25,6 +25,14 @@ unsafe extern "C" {
     fn exchange_pack(list: *const u16, places: usize, ticket: *mut u8, bytes: usize) -> u32;
     fn exchange_settle(ticket: *const u8, bytes: usize, settlement: *mut u8, room: usize) -> u32;
     fn exchange_sheet(ticket: *const u8, bytes: usize, text: *mut u8, room: usize) -> u32;
+    fn exchange_account(
+        ticket: *const u8,
+        bytes: usize,
+        settlement: *const u8,
+        length: usize,
+        list: *mut u32,
+        places: usize,
+    ) -> u32;
     fn exchange_mark(ticket: *const u8, bytes: usize, settlement: *const u8, length: usize) -> u64;
 }
 
@@ -63,6 +71,21 @@ pub fn mark(ticket: &[u8], settlement: &[u8]) -> Answer<Verdict> {
     let number =
         unsafe { exchange_mark(ticket.as_ptr(), ticket.len(), settlement.as_ptr(), length) };
     verdict_or_refusal(number)
+}
+
+pub fn account(ticket: &[u8], settlement: &[u8], list: &mut [u32]) -> Answer<usize> {
+    // SAFETY: as above.
+    let number = unsafe {
+        exchange_account(
+            ticket.as_ptr(),
+            ticket.len(),
+            settlement.as_ptr(),
+            settlement.len(),
+            list.as_mut_ptr(),
+            list.len(),
+        )
+    };
+    count_or_refusal(number)
 }
 
 fn count_or_refusal(number: u32) -> Answer<usize> {

@@ -1,6 +1,7 @@
 //! The exchange in plain Rust, written from the paper and not from the proved code. Only settling follows the proved
 //! program's method, turn for turn, because it is also the yardstick for its speed.
 
+pub mod account;
 pub mod cheapest;
 pub mod jumps;
 pub mod mark;
@@ -30,6 +31,7 @@ pub enum Refusal {
     NoSettlement = 14,
     OtherParties = 15,
     SettlementBytesLeft = 16,
+    NotSound = 17,
 }
 
 /// The two deals of a pair.

@@ -1,6 +1,7 @@
 //! The proved exchange and the plain one give the same answers and leave the same buffers, on inputs drawn from fixed
 //! seeds. Each test writes what it compared, also where tests are captured.
 
+mod account;
 mod buffers;
 mod mark;
 mod pack;

@@ -38,7 +38,7 @@ fn same_mark(ticket: &[u8], settlement: &[u8], tally: &mut Tally) {
     }
 }
 
-fn sound_settlement(ticket: &Ticket) -> Settlement {
+pub fn sound_settlement(ticket: &Ticket) -> Settlement {
     let mut bytes = vec![0; 3 + 4 * ticket.pairs()];
     let length = proved::settle(&ticket.bytes(), &mut bytes).expect("the ticket is good");
     Settlement::read(&bytes[..length], ticket).expect("it is a settlement")

@@ -17,6 +17,7 @@ use script::as_bytes;
 use script::before;
 use script::counted;
 use script::no_numbers;
+use settling::account;
 use settling::settle;
 use settling::sheet;
 use writing::pack;
@@ -31,6 +32,7 @@ fn run(case: Case, list: &[u16], file: &[u8], other: &[u8]) -> bool {
         Operation::Read => read(file, case.growers, case.pilots, case.room),
         Operation::Write => write(list, case.growers, case.pilots, case.room),
         Operation::Mark => judged(marker::mark(file, other)),
+        Operation::Account => account(file, other),
         Operation::Settle => settle(file, case.room),
         Operation::Sheet => sheet(file, case.room),
         Operation::Unknown => {

@@ -1,4 +1,4 @@
-// `settle` and `sheet`: a ticket settled into bytes, with the verdict on them, and into text.
+// `settle` and `sheet`: a ticket settled into bytes, with the verdict on them, and into text. `account`: what a settlement brings everybody.
 use super::answer::judged;
 use super::answer::with_bytes;
 use super::answer::with_text;
@@ -23,4 +23,16 @@ pub(crate) fn sheet(ticket: &[u8], room: usize) {
     let mut lent = marked_bytes();
     let reply = sheets::sheet(ticket, room_of_bytes(&mut lent, room));
     with_text(reply, bytes::front(&lent, room));
+}
+
+pub(crate) fn account(ticket: &[u8], settlement: &[u8]) {
+    let account = accounts::account(ticket, settlement);
+    let reply = account.reply;
+    match reply {
+        Reply::Refused { why } => report::refused(why),
+        Reply::Done { count } => {
+            let list = account.list;
+            report::done_list(count, &list);
+        }
+    }
 }

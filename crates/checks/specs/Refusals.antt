@@ -32,6 +32,10 @@ amountWithoutCap = 8
 abbrev pub noRoom : ℕ
 noRoom = 10
 
+-- 17: the settlement is read, but not sound.
+abbrev pub notSound : ℕ
+notSound = 17
+
 -- The refusal w unless the test holds.
 abbrev pub must : Bool → ℕ → ℕ
 must true w = 0

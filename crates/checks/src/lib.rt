@@ -6,6 +6,7 @@ mod ticket; // ticket.rt: the fields of a ticket
 
 pub use refusals::Document;
 pub use refusals::NO_ROOM;
+pub use refusals::NOT_SOUND;
 pub use refusals::Refusals;
 pub use refusals::refusals_of;
 pub use settlement::settlement_fault;

@@ -18,7 +18,7 @@ pub struct Refusals {
     pub left: u8, // something is left after the last number
 }
 
-// The refusals of a ticket's ranges, and of a lent buffer that is too short.
+// The refusals of a ticket's ranges, of a lent buffer that is too short, and of a settlement that is not sound.
 pub(crate) const HOURS_ABOVE_LIMIT: u8 = 6;
 
 pub(crate) const ABOVE_LIMIT: u8 = 7;
@@ -26,6 +26,8 @@ pub(crate) const ABOVE_LIMIT: u8 = 7;
 pub(crate) const AMOUNT_WITHOUT_CAP: u8 = 8;
 
 pub const NO_ROOM: u8 = 10;
+
+pub const NOT_SOUND: u8 = 17;
 
 // The numbers of a document: 1 to 5 and 9 for a ticket, 11 to 16 for a settlement.
 pub fn refusals_of(document: Document) -> Refusals

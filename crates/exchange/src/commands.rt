@@ -1,4 +1,5 @@
 // The commands. The first file of a command is read here, and what it writes is named by its last argument.
+use crate::account;
 use crate::layout;
 use crate::room;
 use crate::usage::Asked;
@@ -61,11 +62,29 @@ fn mark_files(ticket: &[u8], settlement: &[u8]) {
     }
 }
 
-fn mark(ticket: &[u8]) {
+// What a sound settlement brings everybody.
+fn account_files(ticket: &[u8], settlement: &[u8]) {
+    let account = accounts::account(ticket, settlement);
+    let reply = account.reply;
+    match reply {
+        Reply::Refused { why } => refused(why),
+        Reply::Done { count: _ } => {
+            let list = account.list;
+            account::print(ticket, list);
+        }
+    }
+}
+
+// An operation on a ticket and on the settlement that is its second file.
+fn with_settlement(ticket: &[u8], accounted: bool) {
     let mut settlement = room::settlement_bytes();
     let got = files::read(3, &mut settlement);
     if let Got::Bytes { count } = got {
-        mark_files(ticket, bytes::front(&settlement, count));
+        if accounted {
+            account_files(ticket, bytes::front(&settlement, count));
+        } else {
+            mark_files(ticket, bytes::front(&settlement, count));
+        }
     }
 }
 
@@ -83,7 +102,8 @@ fn run(operation: Operation, ticket: &[u8]) {
     match operation {
         Operation::Sheet => print_sheet(ticket),
         Operation::Settle => settle(ticket),
-        Operation::Mark => mark(ticket),
+        Operation::Mark => with_settlement(ticket, false),
+        Operation::Account => with_settlement(ticket, true),
         Operation::Unpack => unpack(ticket),
     }
 }

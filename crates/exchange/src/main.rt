@@ -1,5 +1,6 @@
 // The exchange on the command line: tickets and settlements are files that are named by arguments. What it writes rests on the proved
 // libraries beneath. The program itself is proved safe.
+mod account;
 mod commands;
 mod layout;
 mod room;

@@ -9,6 +9,7 @@ pub(crate) enum Operation {
     Sheet,
     Settle,
     Mark,
+    Account,
     Unpack,
 }
 
@@ -24,6 +25,7 @@ fn on_ticket(operation: Operation) -> Command {
     Command::OnTicket { operation }
 }
 
+// The commands that begin with a ticket, then the others.
 pub(crate) fn command_of(word: &[u8]) -> Command {
     if check::same(word, b"sheet") {
         return on_ticket(Operation::Sheet);
@@ -34,9 +36,16 @@ pub(crate) fn command_of(word: &[u8]) -> Command {
     if check::same(word, b"mark") {
         return on_ticket(Operation::Mark);
     }
+    if check::same(word, b"account") {
+        return on_ticket(Operation::Account);
+    }
     if check::same(word, b"unpack") {
         return on_ticket(Operation::Unpack);
     }
+    other_command(word)
+}
+
+fn other_command(word: &[u8]) -> Command {
     if check::same(word, b"pack") {
         return Command::Pack;
     }
@@ -54,6 +63,7 @@ fn words_on_ticket(operation: Operation) -> usize {
         Operation::Sheet => 3,
         Operation::Settle => 4,
         Operation::Mark => 4,
+        Operation::Account => 4,
         Operation::Unpack => 3,
     }
 }
@@ -72,7 +82,7 @@ pub(crate) fn words_of(command: Command) -> usize {
 pub(crate) fn usage() {
     say(
         STDERR_FILENO,
-        b"usage: exchange sheet|settle|mark|unpack|pack|draw|help ARGUMENTS\n",
+        b"usage: exchange sheet|settle|mark|account|unpack|pack|draw|help ARGUMENTS\n",
     );
 }
 
@@ -83,11 +93,11 @@ pub(crate) fn help() {
     );
     say(
         STDOUT_FILENO,
-        b"exchange mark TICKET SETTLEMENT\nexchange unpack TICKET\n",
+        b"exchange mark TICKET SETTLEMENT\nexchange account TICKET SETTLEMENT\n",
     );
     say(
         STDOUT_FILENO,
-        b"exchange pack LIST TICKET\nexchange draw SEED N M TICKET\n",
+        b"exchange unpack TICKET\nexchange pack LIST TICKET\nexchange draw SEED N M TICKET\n",
     );
 }
 

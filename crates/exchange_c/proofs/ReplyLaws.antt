@@ -41,7 +41,7 @@ number-tells (Reply.Refused why) h =
     let e : 65536 + why - 65536 ≡ why = omega arith in rw (le-ltb (65536 + why) 65536 (omega arith), e)
 number-tells (Reply.Done count) h = rw (lt-ltb count 65536 h)
 
-reply-small : (room : ℕ) (o : Outcome) → ((xs : List ℕ) → o ≡ Numbers xs → length xs < 65536) → Small (reply room o)
+pub reply-small : (room : ℕ) (o : Outcome) → ((xs : List ℕ) → o ≡ Numbers xs → length xs < 65536) → Small (reply room o)
 reply-small room (Refusal w) h = tt
 reply-small room (Numbers xs) h = go (leb (length xs) room)
   where

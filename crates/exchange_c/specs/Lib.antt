@@ -1,3 +1,4 @@
 -- The definitions that the contracts of `exchange_c` cite: the numbers that C gets.
 pub mod Replies
 pub mod Marks
+pub mod Accounts

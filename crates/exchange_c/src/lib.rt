@@ -1,5 +1,6 @@
 // The exchange for programs in C: the proved operations under plain names, each answering one number.
 // A slice is a pointer and a length to C. `include/hours_exchange.h` declares these functions.
+mod lending;
 mod marks;
 mod replies;
 
@@ -9,8 +10,10 @@ ghost use Rattle.reader.specs.Answer.{unpacked, packed, reply, kept};
 ghost use Rattle.marker.specs.Marked.{markedValues};
 ghost use Rattle.settler.specs.Settled.{Settled};
 ghost use Rattle.sheets.specs.Sheeted.{Sheeted};
+ghost use Rattle.accounts.specs.Accounted.{accountOutcome};
 ghost use Rattle.exchange_c.specs.Replies.{replyNumber, NumberOf};
 ghost use Rattle.exchange_c.specs.Marks.{markNumber};
+use lending::lend;
 use marks::mark_number;
 use replies::reply_number;
 
@@ -54,4 +57,14 @@ pub extern "C" fn exchange_mark(ticket: &[u8], settlement: &[u8]) -> u64
     ensures { λ r. ⌜ r ≡ markNumber (markedValues (now (ticket .entry)) (now (settlement .entry))) ⌝ }
 {
     mark_number(verdicts::values_of(marker::mark(ticket, settlement)))
+}
+
+// `accounts::account`: how many numbers the account of a settlement lists, or a refusal; 10, the list is too short, comes last.
+#[no_mangle]
+pub extern "C" fn exchange_account(ticket: &[u8], settlement: &[u8], list: &mut [u32]) -> u32
+    ensures { λ r. ⌜ r ≡ replyNumber (reply (length (now (list .entry))) (accountOutcome (now (ticket .entry)) (now (settlement .entry)))) ⌝ }
+    ensures { λ _. ⌜ now (list .exit) ≡ kept (now (list .entry)) (accountOutcome (now (ticket .entry)) (now (settlement .entry))) ⌝ }
+{
+    let account = accounts::account(ticket, settlement);
+    reply_number(lend(account, list))
 }

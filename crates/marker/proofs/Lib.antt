@@ -9,4 +9,5 @@ pub mod Views
 pub mod Verdicts
 pub mod SameVerdicts
 pub mod Marking
+pub mod TicketLimits
 pub mod ValueBounds

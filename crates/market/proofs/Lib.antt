@@ -14,3 +14,4 @@ pub mod End
 pub mod Existence
 pub mod BestTotal
 pub mod OneGain
+pub mod AccountTotals

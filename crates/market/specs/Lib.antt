@@ -7,3 +7,4 @@ pub mod Method
 pub mod Steps
 pub mod Squares
 pub mod Totals
+pub mod Accounts

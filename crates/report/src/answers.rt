@@ -6,6 +6,7 @@ use super::lent::kept_numbers;
 use super::number;
 use super::numbers;
 use super::text;
+use super::wide_numbers;
 
 fn refusal(why: u8) {
     text(b"  refused ");
@@ -61,6 +62,15 @@ pub fn done_bytes(count: usize, lent: &[u8]) {
     done(count, kept_bytes(lent));
     text(b":");
     bytes(bytes::front(lent, count));
+    end_line();
+}
+
+// A list that was returned: how many numbers it has, and they.
+pub fn done_list(count: usize, list: &[u32]) {
+    text(b"  done ");
+    number(count);
+    text(b":");
+    wide_numbers(list, count);
     end_line();
 }
 

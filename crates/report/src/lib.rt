@@ -3,6 +3,7 @@ mod answers;
 mod lent;
 
 pub use answers::done_bytes;
+pub use answers::done_list;
 pub use answers::done_numbers;
 pub use answers::done_text;
 pub use answers::not_understood;
@@ -43,6 +44,20 @@ pub fn bytes(s: &[u8]) {
 pub fn numbers(list: &[u16]) {
     for k in 0..list.len() {
         number_after_space(list[k]);
+    }
+}
+
+fn wide_after_space(x: u32) {
+    text(b" ");
+    number(x as usize);
+}
+
+// The first numbers of a list.
+pub(crate) fn wide_numbers(list: &[u32], count: usize) {
+    for k in 0..list.len() {
+        if k < count {
+            wide_after_space(list[k]);
+        }
     }
 }
 

@@ -5,6 +5,7 @@ pub enum Operation {
     Read,
     Write,
     Mark,
+    Account,
     Settle,
     Sheet,
     Unknown,
@@ -20,6 +21,8 @@ const READ: u64 = 0x72_65_61_64;
 const WRITE: u64 = 0x77_72_69_74_65;
 
 const MARK: u64 = 0x6d_61_72_6b;
+
+const ACCOUNT: u64 = 0x61_63_63_6f_75_6e_74;
 
 const SETTLE: u64 = 0x73_65_74_74_6c_65;
 
@@ -45,6 +48,7 @@ pub(crate) fn named(word: &[u8]) -> Operation {
         READ => Operation::Read,
         WRITE => Operation::Write,
         MARK => Operation::Mark,
+        ACCOUNT => Operation::Account,
         SETTLE => Operation::Settle,
         SHEET => Operation::Sheet,
         _ => Operation::Unknown,

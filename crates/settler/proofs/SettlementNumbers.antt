@@ -25,7 +25,7 @@ use Rattle.reader.proofs.Facts.{pair-below, settlement-accepted, settlement-byt
 use Rattle.tables.specs.View.{growersOf, pilotsOf, pairPlace, ticketOf, settlementOf}
 use Rattle.settler.specs.Listing.{nth, numberOf, Listed}
 use Rattle.settler.specs.Numbers.{IsTicket, settlementFront, SoundFront}
-use Rattle.settler.proofs.TicketLimits.{limits}
+use Rattle.marker.proofs.TicketLimits.{Limits, limits}
 
 module _ {n m : ℕ} {tariffHours freeDealHours pay : Grid} {list : List ℕ} (l : Listed n m tariffHours freeDealHours pay list)
     (long : length list ≡ 771) (hn : n ≤ 16) (hm : m ≤ 16) where
@@ -121,25 +121,28 @@ sound-front xs is t same tariffHours freeDealHours pay s list long n m en em lis
     l : Listed (growersOf xs) (pilotsOf xs) tariffHours freeDealHours pay list
     l = rw (en, em) at listed
 
+    within : Limits (ticketOf xs)
+    within = limits (is .bytes) xs (is .from)
+
     hn : growersOf xs ≤ 16
-    hn = limits is .growers
+    hn = within .growers
 
     hm : pilotsOf xs ≤ 16
-    hm = limits is .pilots
+    hm = within .pilots
 
     -- the squares are sound for the list's ticket itself
     here : Sound (ticketOf xs) (settlementIn tariffHours freeDealHours pay)
     here = sound-same same (record { hours = λ d i j hi hj. refl; pay = λ i j hi hj. refl }) s
 
     few : (k i j : ℕ) → k < 2 → i < growersOf xs → j < pilotsOf xs → numberOf tariffHours freeDealHours pay k i j < 128
-    few zero i j hk hi hj = omega (arith, here .feasible .fits .deal Tariff i j hi hj, limits is .tariffCap i j hi hj)
-    few (suc zero) i j hk hi hj = omega (arith, here .feasible .fits .deal Free i j hi hj, limits is .freeCap i j hi hj)
+    few zero i j hk hi hj = omega (arith, here .feasible .fits .deal Tariff i j hi hj, within .tariffCap i j hi hj)
+    few (suc zero) i j hk hi hj = omega (arith, here .feasible .fits .deal Free i j hi hj, within .freeCap i j hi hj)
     few (suc (suc k)) i j hk hi hj = absurd (omega arith)
 
     small : (k i j : ℕ) → i < growersOf xs → j < pilotsOf xs → numberOf tariffHours freeDealHours pay k i j < 16384
     small zero i j hi hj = omega (arith, few 0 i j (omega arith) hi hj)
     small (suc zero) i j hi hj = omega (arith, few 1 i j (omega arith) hi hj)
-    small (suc (suc k)) i j hi hj = omega (arith, here .feasible .payInGain i j hi hj, limits is .jointGain i j hi hj)
+    small (suc (suc k)) i j hi hj = omega (arith, here .feasible .payInGain i j hi hj, within .jointGain i j hi hj)
 
     sound : Sound (ticketOf xs) (settlementOf (settlementFront xs list))
     sound = sound-same same (own-same l long hn hm t (sym (same .growers)) (sym (same .pilots))) s

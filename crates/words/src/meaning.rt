@@ -22,6 +22,7 @@ fn refusal_words(fd: i32, why: u8) {
         6 => say(fd, b"hours above 60"),
         7 => say(fd, b"a cap above 60 or an amount above 500"),
         8 => say(fd, b"an amount in a deal of cap 0"),
+        17 => say(fd, b"not sound"),
         _ => say(fd, b"something is left at its end"),
     }
 }

@@ -4,7 +4,7 @@ use Prim.Native.Nat.{_≤_, min}
 use native.Mathlib.Omega.{arith}
 use Rattle.grid.proofs.Filling.{filled-zeros}
 use Rattle.tables.proofs.Meaning.{ticket-same}
-use Rattle.settler.proofs.TicketLimits.{limits}
+use Rattle.marker.proofs.TicketLimits.{limits}
 use Rattle.settler.proofs.SettlementNumbers.{sound-front}
 use borrow.Author.Needs.{needs}
 use Rattle.settler.proofs.list_sound.Statement.{statement}
@@ -25,7 +25,8 @@ settled c = c .before .before .before
 
 few : (c : tie.After-pilots) → (c .before .growers .result ≤ 16) × (c .pilots .result ≤ 16)
 few c =
-    let t = limits (c .before .before .before .pre .0) in
+    let is = c .before .before .before .pre .0 in
+    let t = limits (is .bytes) _ (is .from) in
     (omega (arith, c .before .growers .ensures .0, t .growers), omega (arith, c .pilots .ensures .0, t .pilots))
 
 list-settlement-requires : tie.Need-list-settlement-requires

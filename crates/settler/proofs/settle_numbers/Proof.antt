@@ -3,7 +3,7 @@
 use mathlib.Core.Path.{_≡_, sym}
 use Prim.Native.Nat.{_*_}
 use native.Mathlib.Omega.{arith}
-use Rattle.settler.proofs.TicketLimits.{limits}
+use Rattle.marker.proofs.TicketLimits.{limits}
 use Rattle.settler.proofs.Answering.{room-answers, written-answers}
 use borrow.Author.Needs.{needs}
 use Rattle.settler.proofs.settle_numbers.Statement.{statement}
@@ -12,7 +12,8 @@ use Rattle.settler.proofs.settle_numbers.Tie as tie
 -- a ticket has at most 16 of each, so all pairs are counted
 all : (c : tie.After-pairs) → c .pairs .result ≡ c .before .before .growers .result * c .before .pilots .result
 all c =
-    let t = limits (c .before .before .before .before .before .pre) in
+    let is = c .before .before .before .before .before .pre in
+    let t = limits (is .bytes) _ (is .from) in
     c .pairs .ensures .1 (omega (arith, c .before .before .growers .ensures .0, t .growers))
     (omega (arith, c .before .pilots .ensures .0, t .pilots))
 

@@ -1,0 +1,4 @@
+pub mod ListLaws
+pub mod EarningLaws
+pub mod Accounting
+pub mod AccountWorth

@@ -1,0 +1,39 @@
+// An account copied into a list that C lends.
+ghost use mathlib.Core.Path.{_≡_};
+ghost use Prim.Native.Nat.{_≤_};
+ghost use lib.ListN.{length, take};
+ghost use lib.Seq.{sets};
+ghost use Rattle.reader.specs.Answer.{reply, kept};
+ghost use Rattle.exchange_c.specs.Accounts.{outcomeOf, Fitting};
+use accounts::Account;
+use reader::NO_ROOM;
+use reader::Reply;
+
+// Writes the first numbers of an account to the front of a list.
+fn copy_front(list: &mut [u32], from: [u32; 48], count: usize)
+    requires { ⌜ (count ≤ 48) × (count ≤ length (now list)) ⌝ }
+    ensures { λ _. ⌜ now (list .exit) ≡ sets (now (list .entry)) 0 (take count from) ⌝ }
+{
+    for k in 0..count {
+        list[k] = from[k];
+    }
+}
+
+// Copies what an account lists into a list, unless that is too short: the last refusal.
+pub(crate) fn lend(account: Account, list: &mut [u32]) -> Reply
+    requires { ⌜ Fitting (account .reply) ⌝ }
+    ensures { λ r. ⌜ (r ≡ reply (length (now (list .entry))) (outcomeOf account)) × (now (list .exit) ≡ kept (now (list .entry)) (outcomeOf account)) ⌝ }
+{
+    let told = account.reply;
+    match told {
+        Reply::Refused { why } => Reply::Refused { why },
+        Reply::Done { count } => {
+            if list.len() < count {
+                return Reply::Refused { why: NO_ROOM };
+            }
+            let numbers = account.list;
+            copy_front(list, numbers, count);
+            Reply::Done { count }
+        }
+    }
+}
