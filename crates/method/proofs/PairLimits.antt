@@ -1,6 +1,6 @@
 -- What the slack of a grower, and of pilots, says of one more pair.
 -- Assumes nothing.
-use Prim.Native.Nat.{ℕ, suc, _+_, _*_, _-_, _≤_, _<_, min}
+use Prim.Native.Nat.{ℕ, suc, _+_, _*_, _-_, _≤_, _<_, min, max}
 use mathlib.Core.Bool.{Bool, true, false, _&&_}
 use mathlib.Core.Path.{_≡_}
 use mathlib.Core.Logic.{⊎-elim}
@@ -11,9 +11,8 @@ use Rattle.grid.specs.Pick.{pick}
 use Rattle.grid.proofs.Cases.{lt-or-le}
 use Rattle.offers.specs.declared.Terms.{Terms}
 use Rattle.offers.specs.declared.Agreed.{Agreed}
-use Rattle.offers.specs.declared.Slack.{Slack}
 use Rattle.offers.specs.Chances.{tariffChance, freeChance}
-use Rattle.offers.specs.Limits.{topPrice, tariffSlack, worthHere, outsideOf, growerSlack, pilotSlack}
+use Rattle.offers.specs.Limits.{topPrice, tariffSlack, worthHere, outsideOf, pilotSlack}
 
 pick-le : (b : Bool) (x y z : ℕ) → x ≤ z → y ≤ z → pick b x y ≤ z
 pick-le true x y z h l = h
@@ -45,33 +44,21 @@ module _ (marked : Bool) (terms : Terms) (agreed : Agreed) (price : ℕ) where
   outside-free : marked ≡ false → freeChance terms agreed price ≤ outsideOf marked terms agreed price
   outside-free m = rw m (omega arith)
 
--- what a grower bears with one more pilot, and without him
-pub record Lower (slack slack′ : Slack) (marked : Bool) (terms : Terms) (agreed : Agreed) (price : ℕ) : Type 0 where
-  pub paid : slack′ .paid ≤ slack .paid
-  pub tariffs : marked ≡ true → 0 < agreed .«by_tariff» → slack′ .paid ≤ 18 * terms .«tariff_pay» + 1 - price
-  pub low : slack′ .low ≤ slack .low
-  pub old : marked ≡ true → 0 < agreed .«old_free» → slack′ .low ≤ suc (suc (18 * terms .«joint_gain»)) - price
-  pub new : marked ≡ true → 0 < agreed .«new_free» → slack′ .low ≤ suc (18 * terms .«joint_gain») - price
-  pub top : slack .top ≤ slack′ .top
-  pub tariff : tariffChance terms agreed price ≤ slack′ .top
-  pub free : marked ≡ false → freeChance terms agreed price ≤ slack′ .top
+  -- what a grower bears with one more pilot, and without him: by is what his tariff hours bear
+  pub tariffs-by : (by r : ℕ) → r ≡ tariffSlack by marked terms agreed price →
+      (r ≤ by) × (marked ≡ true → 0 < agreed .«by_tariff» → r ≤ 18 * terms .«tariff_pay» + 1 - price)
+  tariffs-by by r e = rw e (tariff-slack-less by, tariff-slack-here by)
 
-grower-lower : (slack : Slack) (marked : Bool) (terms : Terms) (agreed : Agreed) (price : ℕ) →
-    Lower slack (growerSlack slack marked terms agreed price) marked terms agreed price
-grower-lower slack marked terms agreed price = record {
-  paid = tariff-slack-less marked terms agreed price (slack .paid);
-  tariffs = tariff-slack-here marked terms agreed price (slack .paid);
-  low = omega arith;
-  old = λ m h. omega (arith, worth-old marked terms agreed price m h);
-  new = λ m h. omega (arith, worth-new marked terms agreed price m h);
-  top = omega arith;
-  tariff = omega (arith, outside-tariff marked terms agreed price marked);
-  free = λ m. omega (arith, outside-free marked terms agreed price m);
-}
+  -- r is the least worth of his free-deal hours
+  pub worth-by : (here r : ℕ) → here ≡ worthHere marked terms agreed price → r ≤ here →
+      (marked ≡ true → 0 < agreed .«old_free» → r ≤ suc (suc (18 * terms .«joint_gain»)) - price) ×
+      (marked ≡ true → 0 < agreed .«new_free» → r ≤ suc (18 * terms .«joint_gain») - price)
+  worth-by here r e le = (λ m h. omega (arith, worth-old m h), λ m h. omega (arith, worth-new m h))
 
-pub lower-by : (slack slack′ : Slack) (marked : Bool) (terms : Terms) (agreed : Agreed) (price : ℕ) →
-    slack′ ≡ growerSlack slack marked terms agreed price → Lower slack slack′ marked terms agreed price
-lower-by slack slack′ marked terms agreed price e = rw e (grower-lower slack marked terms agreed price)
+  -- top is the most that his other open deals offer
+  pub offers-by : (here top r : ℕ) → here ≡ outsideOf marked terms agreed price → r ≡ max top here →
+      (top ≤ r) × (tariffChance terms agreed price ≤ r) × (marked ≡ false → freeChance terms agreed price ≤ r)
+  offers-by here top r e is = (omega arith, omega (arith, outside-tariff marked), λ m. omega (arith, outside-free m))
 
 -- what pilots bear with one more, and without him
 pub pilot-less : (by : ℕ) (marked : Bool) (free price : ℕ) → pilotSlack by marked free price ≤ by

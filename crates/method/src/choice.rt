@@ -7,12 +7,11 @@ ghost use Rattle.market.specs.Method.{hoursOf};
 ghost use Rattle.method.specs.View.{line, alone, heldBy};
 ghost use Rattle.method.specs.Choice.{chance, Greatest};
 use crate::Best;
-use market::Deal;
 use numbers::wide;
 use offers::Agreed;
-use offers::Choice;
 use offers::Terms;
-use offers::better;
+use offers::better_deal;
+use offers::greater_chance;
 
 // The deal that offers a grower most.
 pub(crate) fn best_deal(
@@ -24,17 +23,18 @@ pub(crate) fn best_deal(
     requires { ⌜ pilots ≤ 16 ⌝ }
     ensures { λ r. ⌜ Greatest (chance (alone pilots 0 terms) (line (now (price .entry))) (heldBy agreed) 0) pilots r ⌝ }
 {
-    let mut choice = Choice {
-        top: 0,
-        pilot: 0,
-        deal: Deal::Tariff,
-    };
+    let mut top: u32 = 0;
+    let mut pilot: usize = 0;
     for j in 0..pilots {
-        choice = better(choice, terms[j], agreed[j], price[j], j);
+        let chance = greater_chance(terms[j], agreed[j], price[j]);
+        if top < chance {
+            top = chance;
+            pilot = j;
+        }
     }
-    if 0 < choice.top {
-        let deal = choice.deal;
-        Best::Offer(choice.pilot, deal)
+    if 0 < top {
+        let deal = better_deal(terms[pilot], agreed[pilot], price[pilot]);
+        Best::Offer(pilot, deal)
     } else {
         Best::Nothing
     }

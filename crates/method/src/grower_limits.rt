@@ -4,11 +4,12 @@ ghost use Rattle.method.specs.View.{line, alone, heldBy};
 ghost use Rattle.method.specs.Jumps.{among, GrowersBear};
 use crate::arith::least;
 use numbers::less_wide;
+use numbers::most;
 use offers::Agreed;
 use offers::MANY;
-use offers::Slack;
 use offers::Terms;
-use offers::grower_slack;
+use offers::outside;
+use offers::tariff_slack;
 use offers::worth_here;
 
 // The least that a free-deal hour of a grower with a marked pilot is worth to him.
@@ -44,13 +45,14 @@ pub(crate) fn row_slack(
     if bound == 0 {
         return 0;
     }
-    let mut slack = Slack {
-        paid: bound,
-        low: MANY,
-        top: 1,
-    };
+    let mut paid = bound;
+    let mut low = MANY;
+    let mut top: u32 = 1;
     for j in 0..pilots {
-        slack = grower_slack(slack, marks[j], terms[j], agreed[j], price[j]);
+        let marked = marks[j];
+        paid = tariff_slack(paid, marked, terms[j], agreed[j], price[j]);
+        low = least(low, worth_here(marked, terms[j], agreed[j], price[j]));
+        top = most(top, outside(marked, terms[j], agreed[j], price[j]));
     }
-    least(slack.paid, less_wide(slack.low, slack.top))
+    least(paid, less_wide(low, top))
 }

@@ -1,13 +1,12 @@
 -- How far a pair and its pilot bear a rise of his price, if he is marked.
 -- Assumes nothing.
-use Prim.Native.Nat.{ℕ, suc, _*_, _-_, min, max}
+use Prim.Native.Nat.{ℕ, suc, _*_, _-_, min}
 use mathlib.Core.Bool.{Bool, _&&_}
 use lib.Dec.{ltb}
 use Rattle.grid.specs.Pick.{pick}
 use Rattle.offers.specs.declared.Terms.{Terms}
 use Rattle.offers.specs.declared.Agreed.{Agreed}
-use Rattle.offers.specs.declared.Slack.{Slack}
-use Rattle.offers.specs.Chances.{tariffChance, freeChance}
+use Rattle.offers.specs.Chances.{tariffChance, greaterChance}
 
 -- no price is higher: 18 times the largest amount of 16 bits, and 1
 abbrev pub topPrice : ℕ
@@ -30,16 +29,7 @@ tariffSlack by marked terms agreed price = pick (marked && ltb 0 (agreed .«by_t
 
 -- the greater chance, but for the free deal with a marked pilot
 abbrev pub outsideOf : Bool → Terms → Agreed → ℕ → ℕ
-outsideOf marked terms agreed price =
-    pick marked (tariffChance terms agreed price) (max (tariffChance terms agreed price) (freeChance terms agreed price))
-
--- all three of a grower, with one more pilot
-abbrev pub growerSlack : Slack → Bool → Terms → Agreed → ℕ → Slack
-growerSlack slack marked terms agreed price = record {
-  paid = tariffSlack (slack .paid) marked terms agreed price;
-  low = min (slack .low) (worthHere marked terms agreed price);
-  top = max (slack .top) (outsideOf marked terms agreed price);
-}
+outsideOf marked terms agreed price = pick marked (tariffChance terms agreed price) (greaterChance terms agreed price)
 
 -- what pilots bear by themselves, with one more: nothing, if he is marked and has a free hour
 abbrev pub pilotSlack : ℕ → Bool → ℕ → ℕ → ℕ

@@ -4,12 +4,12 @@ ghost use mathlib.Core.Path.{_≡_};
 ghost use Prim.Native.Nat.{suc, _*_, _-_};
 ghost use lib.Dec.{leb};
 ghost use Rattle.grid.specs.Pick.{pick};
-ghost use Rattle.offers.specs.Chances.{tariffChance, freeChance, greaterOf, betterOf};
+ghost use Rattle.offers.specs.Chances.{tariffChance, freeChance, greaterChance, betterDeal};
 use crate::Agreed;
-use crate::Choice;
 use crate::Terms;
 use market::Deal;
 use numbers::less_wide;
+use numbers::most;
 use numbers::wide;
 
 fn tariff_offer(price: u32, gain: u16, pay: u16) -> u32
@@ -49,27 +49,24 @@ pub fn free_chance(terms: Terms, agreed: Agreed, price: u32) -> u32
     }
 }
 
-// The greater of a choice and of one more chance; the choice, if they are equal.
-fn greater(choice: Choice, chance: u32, pilot: usize, deal: Deal) -> Choice
-    ensures { λ r. ⌜ r ≡ greaterOf choice chance pilot deal ⌝ }
-{
-    if choice.top < chance {
-        Choice {
-            top: chance,
-            pilot,
-            deal,
-        }
-    } else {
-        choice
-    }
-}
-
-// The greatest of a choice and of the chances with one more pilot: the first of them that is as great as any.
-pub fn better(choice: Choice, terms: Terms, agreed: Agreed, price: u32, pilot: usize) -> Choice
-    ensures { λ r. ⌜ r ≡ betterOf choice terms agreed price pilot ⌝ }
+// The greater of both chances.
+pub fn greater_chance(terms: Terms, agreed: Agreed, price: u32) -> u32
+    ensures { λ r. ⌜ r ≡ greaterChance terms agreed price ⌝ }
 {
     let tariff = tariff_chance(terms, agreed, price);
-    let next = greater(choice, tariff, pilot, Deal::Tariff);
     let free = free_chance(terms, agreed, price);
-    greater(next, free, pilot, Deal::Free)
+    most(tariff, free)
+}
+
+// The deal of the greater chance; the tariff deal, if they are equal.
+pub fn better_deal(terms: Terms, agreed: Agreed, price: u32) -> Deal
+    ensures { λ r. ⌜ r ≡ betterDeal terms agreed price ⌝ }
+{
+    let tariff = tariff_chance(terms, agreed, price);
+    let free = free_chance(terms, agreed, price);
+    if tariff < free {
+        Deal::Free
+    } else {
+        Deal::Tariff
+    }
 }

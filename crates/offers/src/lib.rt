@@ -4,11 +4,13 @@ mod chances;
 mod late;
 mod limits;
 
-pub use chances::better;
+pub use chances::better_deal;
 pub use chances::free_chance;
+pub use chances::greater_chance;
 pub use late::late_here;
-pub use limits::grower_slack;
+pub use limits::outside;
 pub use limits::pilot_slack;
+pub use limits::tariff_slack;
 pub use limits::worth_here;
 use market::Deal;
 
@@ -35,23 +37,8 @@ pub struct Agreed {
     pub new_free: u16,
 }
 
-// The greatest chance so far: with which pilot, and which of their deals.
-pub struct Choice {
-    pub top: u32,
-    pub pilot: usize,
-    pub deal: Deal,
-}
-
 // Late hours of a pilot with one grower: in which of their deals, and how many.
 pub enum LateHours {
     NoHours,
     Hours(Deal, u16),
-}
-
-// How far a grower bears a rise of the marked pilots' prices, so far: what his tariff hours with them bear, the least that a free-deal
-// hour with them is worth to him, and the most that his other open deals offer.
-pub struct Slack {
-    pub paid: u32,
-    pub low: u32,
-    pub top: u32,
 }

@@ -1,17 +1,15 @@
 // How far a rise of the marked pilots' prices is borne. No free-deal hour with a marked pilot may become worth less than another open
 // deal, no tariff hour of his may pay too little, and he has no free hour.
 ghost use mathlib.Core.Path.{_≡_};
-ghost use Rattle.offers.specs.Limits.{worthHere, tariffSlack, outsideOf, growerSlack, pilotSlack};
+ghost use Rattle.offers.specs.Limits.{worthHere, tariffSlack, outsideOf, pilotSlack};
 use crate::Agreed;
 use crate::MANY;
-use crate::Slack;
 use crate::TOP;
 use crate::Terms;
-use crate::chances::free_chance;
+use crate::chances::greater_chance;
 use crate::chances::tariff_chance;
 use numbers::least;
 use numbers::less_wide;
-use numbers::most;
 use numbers::wide;
 
 // The least that a free-deal hour with one pilot is worth to its grower, if the pilot is marked and there is one.
@@ -31,7 +29,7 @@ pub fn worth_here(marked: bool, terms: Terms, agreed: Agreed, price: u32) -> u32
 }
 
 // At most `by`, and what the tariff hours of a pilot with one grower bear, if he is marked.
-fn tariff_slack(by: u32, marked: bool, terms: Terms, agreed: Agreed, price: u32) -> u32
+pub fn tariff_slack(by: u32, marked: bool, terms: Terms, agreed: Agreed, price: u32) -> u32
     ensures { λ r. ⌜ r ≡ tariffSlack by marked terms agreed price ⌝ }
 {
     if marked {
@@ -43,24 +41,13 @@ fn tariff_slack(by: u32, marked: bool, terms: Terms, agreed: Agreed, price: u32)
 }
 
 // The greater of a grower's chances with one pilot, but for the free deal with a marked one.
-fn outside(marked: bool, terms: Terms, agreed: Agreed, price: u32) -> u32
+pub fn outside(marked: bool, terms: Terms, agreed: Agreed, price: u32) -> u32
     ensures { λ r. ⌜ r ≡ outsideOf marked terms agreed price ⌝ }
 {
-    let tariff = tariff_chance(terms, agreed, price);
     if marked {
-        return tariff;
-    }
-    most(tariff, free_chance(terms, agreed, price))
-}
-
-// How far a grower bears it, with one more pilot.
-pub fn grower_slack(slack: Slack, marked: bool, terms: Terms, agreed: Agreed, price: u32) -> Slack
-    ensures { λ r. ⌜ r ≡ growerSlack slack marked terms agreed price ⌝ }
-{
-    Slack {
-        paid: tariff_slack(slack.paid, marked, terms, agreed, price),
-        low: least(slack.low, worth_here(marked, terms, agreed, price)),
-        top: most(slack.top, outside(marked, terms, agreed, price)),
+        tariff_chance(terms, agreed, price)
+    } else {
+        greater_chance(terms, agreed, price)
     }
 }
 
