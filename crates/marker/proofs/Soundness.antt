@@ -21,7 +21,7 @@ use Rattle.verdicts.specs.declared.Verdict.the-variants.{Sound, TariffOverCap, 
 use Rattle.verdicts.specs.declared.Verdict.the-variants.{Idle, Blocks}
 use Rattle.verdicts.specs.Tests.{below, bothBelow, payTest}
 use Rattle.verdicts.specs.Values.{verdictNumber}
-use Rattle.verdicts.proofs.CheapestSpares.{below-true, below-made, both-below-true, both-below-made}
+use Rattle.verdicts.proofs.CheapestSpares.{below-iff, both-below-iff}
 use Rattle.marker.specs.Verdict.{wrongPair, wrongPay, freeOfGrower, freeOfPilot, growerOver, pilotOver}
 use Rattle.marker.specs.Verdict.{idle, blocks, wrongDeal, growerSpare, pilotSpare}
 use Rattle.marker.specs.Verdict.{byPair, dealAt, walk, pairVerdict, dealVerdictAt, pairs, pairFaultAt, dealFaultAt, dealsJudged}
@@ -48,31 +48,18 @@ denied : (b : Bool) (P : Type 0) → (P → b ≡ true) → b ≡ false → ¬ P
 denied b P f h p = true≢false (sym (f p) ∙ h)
 
 module _ (t : Ticket) (x : Settlement) where
-  -- the tests of the cheapest spares of both
+  -- the tests of the cheapest spares, of each and of both
   grower-below : (d : Deal) (i j v : ℕ) → (below (growerSpare t x d i j) v ≡ true) ↔ ((w : ℕ) × SpareOfGrower t x d i j w × (w < v))
-  grower-below d i j v = (
-    below-true (SpareOfGrower t x d i j) (growerSpare t x d i j) (cheapest-of-grower t x d i j) v,
-    λ z. below-made (SpareOfGrower t x d i j) (growerSpare t x d i j) (cheapest-of-grower t x d i j) v (z .0) (z .1) (z .2),
-  )
+  grower-below d i j = below-iff (SpareOfGrower t x d i j) (growerSpare t x d i j) (cheapest-of-grower t x d i j)
 
   pilot-below : (d : Deal) (i j v : ℕ) → (below (pilotSpare t x d i j) v ≡ true) ↔ ((w : ℕ) × SpareOfPilot t x d i j w × (w < v))
-  pilot-below d i j v = (
-    below-true (SpareOfPilot t x d i j) (pilotSpare t x d i j) (cheapest-of-pilot t x d i j) v,
-    λ z. below-made (SpareOfPilot t x d i j) (pilotSpare t x d i j) (cheapest-of-pilot t x d i j) v (z .0) (z .1) (z .2),
-  )
+  pilot-below d i j = below-iff (SpareOfPilot t x d i j) (pilotSpare t x d i j) (cheapest-of-pilot t x d i j)
 
-  module _ (d : Deal) (i j v : ℕ) where
-    both-true-below : bothBelow (growerSpare t x d i j) (pilotSpare t x d i j) v ≡ true →
-        (w : ℕ) × (u : ℕ) × Cheapest (SpareOfGrower t x d i j) w × Cheapest (SpareOfPilot t x d i j) u × (w + u < v)
-    both-true-below =
-        both-below-true (SpareOfGrower t x d i j) (SpareOfPilot t x d i j) (growerSpare t x d i j) (pilotSpare t x d i j)
-        (cheapest-of-grower t x d i j) (cheapest-of-pilot t x d i j) v
-
-    both-made-below : (w u : ℕ) → SpareOfGrower t x d i j w → SpareOfPilot t x d i j u → w + u < v →
-        bothBelow (growerSpare t x d i j) (pilotSpare t x d i j) v ≡ true
-    both-made-below =
-        both-below-made (SpareOfGrower t x d i j) (SpareOfPilot t x d i j) (growerSpare t x d i j) (pilotSpare t x d i j)
-        (cheapest-of-grower t x d i j) (cheapest-of-pilot t x d i j) v
+  both-below : (d : Deal) (i j v : ℕ) → (bothBelow (growerSpare t x d i j) (pilotSpare t x d i j) v ≡ true) ↔
+      ((w : ℕ) × (u : ℕ) × Cheapest (SpareOfGrower t x d i j) w × Cheapest (SpareOfPilot t x d i j) u × (w + u < v))
+  both-below d i j =
+      both-below-iff (SpareOfGrower t x d i j) (SpareOfPilot t x d i j) (growerSpare t x d i j) (pilotSpare t x d i j)
+      (cheapest-of-grower t x d i j) (cheapest-of-pilot t x d i j)
 
   pub blocks-iff : (d : Deal) (i j : ℕ) → (blocks t x d i j ≡ true) ↔ market.Blocks t x d i j
   blocks-iff Tariff i j = (
@@ -89,11 +76,11 @@ module _ (t : Ticket) (x : Settlement) where
   )
   blocks-iff Free i j = (
     λ h. let z = both-true (ltb (x .hours Free i j) (t .freeCap i j)) _ h in
-        let y = both-true-below Free i j (t .jointGain i j) (z .1) in
+        let y = both-below Free i j (t .jointGain i j) .0 (z .1) in
         (y .0, y .1, ltb-true _ _ (z .0), y .2, y .3, y .4),
     λ b. rw (
       lt-ltb (x .hours Free i j) (t .freeCap i j) (b .2),
-      both-made-below Free i j (t .jointGain i j) (b .0) (b .1) (b .3 .0) (b .4 .0) (b .5),
+      both-below Free i j (t .jointGain i j) .1 (b .0, b .1, b .3, b .4, b .5),
     ),
   )
 

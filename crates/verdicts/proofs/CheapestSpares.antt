@@ -3,7 +3,7 @@
 use Prim.Native.Nat.{ℕ, zero, suc, _+_, min, _<_}
 use mathlib.Core.Path.{_≡_, refl, sym}
 use mathlib.Core.Bool.{true, cond, false≢true}
-use mathlib.Core.Logic.{_⊎_, inl, inr, ⊎-elim}
+use mathlib.Core.Logic.{_⊎_, _↔_, inl, inr, ⊎-elim}
 use native.Mathlib.Omega.{arith}
 use lib.Dec.{eqb}
 use borrow.Author.Tests.{ltb-true, lt-ltb, le-ltb, eq-eqb, ne-eqb}
@@ -21,7 +21,7 @@ CheapestIs P Nothing = (w : ℕ) → ¬ P w
 CheapestIs P (Worth w) = Cheapest P w
 
 -- the same for a property that comes to the same
-pub alike : (P Q : ℕ → Type 0) → ((w : ℕ) → P w → Q w) → ((w : ℕ) → Q w → P w) → (s : Spare) → CheapestIs P s → CheapestIs Q s
+alike : (P Q : ℕ → Type 0) → ((w : ℕ) → P w → Q w) → ((w : ℕ) → Q w → P w) → (s : Spare) → CheapestIs P s → CheapestIs Q s
 alike P Q to from Nothing none = λ w q. none w (from w q)
 alike P Q to from (Worth w) least = (to w (least .0), λ v q. least .1 v (from v q))
 
@@ -93,45 +93,63 @@ same-deal-some l y h some =
 same-deal-other : (l y h : ℕ) → 0 < h → (l ≡ y → ⊥) → 0 < cond (eqb l y) 0 h
 same-deal-other l y h some n = rw (ne-eqb l y n) some
 
-pub besides-some : (d e : Deal) (y l : ℕ) (hours : Deal → ℕ → ℕ) → 0 < besides d y hours e l → (0 < hours e l) × (e ≡ d → l ≡ y → ⊥)
+besides-some : (d e : Deal) (y l : ℕ) (hours : Deal → ℕ → ℕ) → 0 < besides d y hours e l → (0 < hours e l) × (e ≡ d → l ≡ y → ⊥)
 besides-some Tariff Tariff y l hours h = let z = same-deal-some l y (hours Tariff l) h in (z .0, λ _. z .1)
 besides-some Tariff Free y l hours h = (h, λ p _. tariff-not-free (sym p))
 besides-some Free Tariff y l hours h = (h, λ p _. tariff-not-free p)
 besides-some Free Free y l hours h = let z = same-deal-some l y (hours Free l) h in (z .0, λ _. z .1)
 
-pub besides-other : (d e : Deal) (y l : ℕ) (hours : Deal → ℕ → ℕ) → 0 < hours e l → (e ≡ d → l ≡ y → ⊥) → 0 < besides d y hours e l
+besides-other : (d e : Deal) (y l : ℕ) (hours : Deal → ℕ → ℕ) → 0 < hours e l → (e ≡ d → l ≡ y → ⊥) → 0 < besides d y hours e l
 besides-other Tariff Tariff y l hours h n = same-deal-other l y (hours Tariff l) h (n refl)
 besides-other Tariff Free y l hours h n = h
 besides-other Free Tariff y l hours h n = h
 besides-other Free Free y l hours h n = same-deal-other l y (hours Free l) h (n refl)
 
--- a free hour, or an hour of another deal
-abbrev pub SpareOf : ℕ → ℕ → (Deal → ℕ → ℕ) → (Deal → ℕ → ℕ) → ℕ → Deal → ℕ → ℕ → Type 0
-SpareOf free standby hours worth k d y = Among (Or (λ w. ⊥) free standby) (besides d y hours) worth k
+-- A party by its numbers: its free hours and what each is worth, its hours and what they earn by deal and partner, and k partners.
+-- The spares are those for the deal d with the partner y.
+module _ (free standby : ℕ) (hours worth : Deal → ℕ → ℕ) (k : ℕ) (d : Deal) (y : ℕ) where
+  -- w is what an hour of another deal is worth
+  abbrev OtherDeal : ℕ → Type 0
+  OtherDeal w = (e : Deal) × (l : ℕ) × (l < k) × (e ≡ d → l ≡ y → ⊥) × (0 < hours e l) × (w ≡ worth e l)
 
-pub cheapest-of : (free standby : ℕ) (hours worth : Deal → ℕ → ℕ) (k : ℕ) (d : Deal) (y : ℕ) →
-    CheapestIs (SpareOf free standby hours worth k d y) (cheapestSpare free standby hours worth k d y)
-cheapest-of free standby hours worth k d y =
-    cheapest-among (Or (λ w. ⊥) free standby) (besides d y hours) worth k (countIn free standby Nothing)
-    (count-in (λ w. ⊥) free standby Nothing (λ w z. z))
+  -- S holds of what spares are worth: a free hour, and an hour of another deal; and of nothing else
+  pub record AreSpares (S : ℕ → Type 0) : Type 0 where
+    pub free-hour : 0 < free → S standby
+    pub other-deal : (e : Deal) (l : ℕ) → l < k → (e ≡ d → l ≡ y → ⊥) → 0 < hours e l → S (worth e l)
+    pub only : (w : ℕ) → S w → ((0 < free) × (w ≡ standby)) ⊎ OtherDeal w
+
+  -- a free hour, or an hour besides the deal's own
+  abbrev Counted : ℕ → Type 0
+  Counted = Among (Or (λ w. ⊥) free standby) (besides d y hours) worth k
+
+  pub cheapest-of : (S : ℕ → Type 0) → AreSpares S → CheapestIs S (cheapestSpare free standby hours worth k d y)
+  cheapest-of S are =
+      alike Counted S to from (cheapestSpare free standby hours worth k d y)
+      (cheapest-among (Or (λ w. ⊥) free standby) (besides d y hours) worth k (countIn free standby Nothing)
+      (count-in (λ w. ⊥) free standby Nothing (λ w z. z)))
+    where
+      to : (w : ℕ) → Counted w → S w
+      to w (inl (inl z)) = absurd z
+      to w (inl (inr (some, e))) = rw e (are .free-hour some)
+      to w (inr (e, l, hl, some, same)) =
+          let z = besides-some d e y l hours some in rw same (are .other-deal e l hl (z .1) (z .0))
+
+      from : (w : ℕ) → S w → Counted w
+      from w s = ⊎-elim
+          (λ h. inl (inr h))
+          (λ o. inr (o .0, o .1, o .2, besides-other d (o .0) y (o .1) hours (o .4) (o .3), o .5))
+          (are .only w s)
 
 -- what the tests of spares say
-pub below-true : (P : ℕ → Type 0) (s : Spare) → CheapestIs P s → (v : ℕ) → below s v ≡ true → (w : ℕ) × P w × (w < v)
-below-true P Nothing is v h = absurd (false≢true h)
-below-true P (Worth w) is v h = (w, is .0, ltb-true w v h)
+pub below-iff : (P : ℕ → Type 0) (s : Spare) → CheapestIs P s → (v : ℕ) → (below s v ≡ true) ↔ ((w : ℕ) × P w × (w < v))
+below-iff P Nothing is v = (λ h. absurd (false≢true h), λ z. absurd (is (z .0) (z .1)))
+below-iff P (Worth w) is v = (λ h. (w, is .0, ltb-true w v h), λ z. lt-ltb w v (omega (arith, is .1 (z .0) (z .1), z .2)))
 
-pub below-made : (P : ℕ → Type 0) (s : Spare) → CheapestIs P s → (v w : ℕ) → P w → w < v → below s v ≡ true
-below-made P Nothing is v w p h = absurd (is w p)
-below-made P (Worth u) is v w p h = lt-ltb u v (omega (arith, is .1 w p))
-
-pub both-below-true : (P Q : ℕ → Type 0) (s r : Spare) → CheapestIs P s → CheapestIs Q r → (v : ℕ) → bothBelow s r v ≡ true →
-    (w : ℕ) × (u : ℕ) × Cheapest P w × Cheapest Q u × (w + u < v)
-both-below-true P Q Nothing r is its v h = absurd (false≢true h)
-both-below-true P Q (Worth w) Nothing is its v h = absurd (false≢true h)
-both-below-true P Q (Worth w) (Worth u) is its v h = (w, u, is, its, ltb-true (w + u) v h)
-
-pub both-below-made : (P Q : ℕ → Type 0) (s r : Spare) → CheapestIs P s → CheapestIs Q r → (v w u : ℕ) → P w → Q u → w + u < v →
-    bothBelow s r v ≡ true
-both-below-made P Q Nothing r is its v w u p q h = absurd (is w p)
-both-below-made P Q (Worth a) Nothing is its v w u p q h = absurd (its u q)
-both-below-made P Q (Worth a) (Worth b) is its v w u p q h = lt-ltb (a + b) v (omega (arith, is .1 w p, its .1 u q))
+pub both-below-iff : (P Q : ℕ → Type 0) (s r : Spare) → CheapestIs P s → CheapestIs Q r → (v : ℕ) →
+    (bothBelow s r v ≡ true) ↔ ((w : ℕ) × (u : ℕ) × Cheapest P w × Cheapest Q u × (w + u < v))
+both-below-iff P Q Nothing r is its v = (λ h. absurd (false≢true h), λ z. absurd (is (z .0) (z .2 .0)))
+both-below-iff P Q (Worth w) Nothing is its v = (λ h. absurd (false≢true h), λ z. absurd (its (z .1) (z .3 .0)))
+both-below-iff P Q (Worth w) (Worth u) is its v = (
+  λ h. (w, u, is, its, ltb-true (w + u) v h),
+  λ z. lt-ltb (w + u) v (omega (arith, is .1 (z .0) (z .2 .0), its .1 (z .1) (z .3 .0), z .4)),
+)
