@@ -5,8 +5,13 @@ use borrow.Author.Needs.{needs}
 use Rattle.exchange_c.proofs.exchange_sheet.Statement.{statement}
 use Rattle.exchange_c.proofs.exchange_sheet.Tie as tie
 
+returns : tie.Need-returns
+returns c =
+    let told = c .before .before .before .sheet in
+    record { reply = told .result; allowed = told .ensures; same = c .reply-number .ensures }
+
 reply-number-requires : tie.Need-reply-number-requires
 reply-number-requires c κs = sheet-small _ _ _ _ (c .before .before .sheet .ensures)
 
 pub exchange-sheet-spec : {M : Type 1} → statement M
-exchange-sheet-spec = tie.close (tie.spec (λ c κs. search needs) reply-number-requires (λ c. search needs) (λ c. search needs))
+exchange-sheet-spec = tie.close (tie.spec (λ c κs. search needs) reply-number-requires (λ c. search needs) returns)
