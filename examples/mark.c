@@ -1,4 +1,7 @@
-/* Marks a settlement file against its ticket file, and says the verdict in words. */
+/*
+ * Marks a settlement file against its ticket file, says the verdict in words, and
+ * prints the account of a sound settlement.
+ */
 #include "hours_exchange.h"
 
 #include <stdio.h>
@@ -27,6 +30,7 @@ static const char *const refusals[] = {
     "the settlement's kind is not 2",
     "the settlement's growers or pilots are not the ticket's",
     "the settlement has bytes left over",
+    "the settlement is not sound",
 };
 
 static int read_file(const char *name, uint8_t *bytes, size_t *length)
@@ -76,6 +80,24 @@ static void print_fault(uint64_t mark)
     }
 }
 
+/* What everybody has of a sound settlement. Of its ticket the second byte is n, the third m. */
+static void print_account(const uint8_t *ticket, const uint32_t *account)
+{
+    unsigned growers = ticket[1];
+    unsigned pilots = ticket[2];
+
+    for (unsigned i = 0; i < growers; i++) {
+        printf("grower %u gains %u euros\n", i, (unsigned)account[i]);
+    }
+    for (unsigned j = 0; j < pilots; j++) {
+        unsigned pay = account[growers + 2 * j];
+        unsigned cents = account[growers + 2 * j + 1];
+
+        printf("pilot %u is paid %u euros, commission %u.%02u euros\n",
+               j, pay, cents / 100, cents % 100);
+    }
+}
+
 static void print_mark(uint64_t mark)
 {
     unsigned refusal = exchange_mark_refusal(mark);
@@ -94,8 +116,11 @@ int main(int argc, char **argv)
 {
     static uint8_t ticket[FILE_BYTES];
     static uint8_t settlement[FILE_BYTES];
+    uint32_t account[EXCHANGE_ACCOUNT_NUMBERS];
     size_t ticket_length;
     size_t settlement_length;
+    uint64_t mark;
+    uint32_t reply;
 
     if (argc != 3) {
         fprintf(stderr, "usage: mark TICKET SETTLEMENT\n");
@@ -105,6 +130,17 @@ int main(int argc, char **argv)
         !read_file(argv[2], settlement, &settlement_length)) {
         return 1;
     }
-    print_mark(exchange_mark(ticket, ticket_length, settlement, settlement_length));
+    mark = exchange_mark(ticket, ticket_length, settlement, settlement_length);
+    print_mark(mark);
+    if (exchange_mark_verdict(mark) != EXCHANGE_SOUND) {
+        return 0;
+    }
+    reply = exchange_account(ticket, ticket_length, settlement, settlement_length,
+                             account, EXCHANGE_ACCOUNT_NUMBERS);
+    if (exchange_refusal(reply) != 0) {
+        fprintf(stderr, "mark: no account: %s\n", refusals[exchange_refusal(reply)]);
+        return 1;
+    }
+    print_account(ticket, account);
     return 0;
 }

@@ -1,4 +1,4 @@
-"""Marks a settlement file against its ticket file, and says the verdict in words.
+"""Marks a settlement file against its ticket file, says the verdict in words, and prints the account of a sound settlement.
 
 The archive must have been linked into a shared object, as run.sh does:
 
@@ -37,12 +37,20 @@ FAULTS = {
 }
 
 
+SOUND = 1
+ACCOUNT_NUMBERS = 48
+REFUSED = 65536
+
+
 def load(path):
-    """The function exchange_mark of a shared object. Bytes go as a pointer and a length."""
-    mark = ctypes.CDLL(path).exchange_mark
-    mark.argtypes = [ctypes.c_char_p, ctypes.c_size_t] * 2
-    mark.restype = ctypes.c_uint64
-    return mark
+    """A shared object with the two functions. Bytes go as a pointer and a length, and so does the list of an account."""
+    exchange = ctypes.CDLL(path)
+    files = [ctypes.c_char_p, ctypes.c_size_t] * 2
+    exchange.exchange_mark.argtypes = files
+    exchange.exchange_mark.restype = ctypes.c_uint64
+    exchange.exchange_account.argtypes = files + [ctypes.POINTER(ctypes.c_uint32), ctypes.c_size_t]
+    exchange.exchange_account.restype = ctypes.c_uint32
+    return exchange
 
 
 def in_words(number):
@@ -51,11 +59,25 @@ def in_words(number):
     if refusal:
         return f"refused with {refusal}: {REFUSALS[refusal]}"
     verdict = number & 0xFF
-    if verdict == 1:
+    if verdict == SOUND:
         return f"sound: {number >> 32} deals looked at"
     deal = "free" if number >> 24 & 0xFF else "tariff"
     fault = FAULTS[verdict].format(grower=number >> 8 & 0xFF, pilot=number >> 16 & 0xFF, deal=deal)
     return f"not sound, verdict {verdict}: {fault}"
+
+
+def account_lines(exchange, ticket, settlement):
+    """What everybody has of a sound settlement, a line for each. Of its ticket the second byte is n, the third m."""
+    account = (ctypes.c_uint32 * ACCOUNT_NUMBERS)()
+    reply = exchange.exchange_account(ticket, len(ticket), settlement, len(settlement), account, ACCOUNT_NUMBERS)
+    if reply >= REFUSED:
+        sys.exit(f"mark.py: no account: refused with {reply - REFUSED}")
+    growers, pilots = ticket[1], ticket[2]
+    lines = [f"grower {i} gains {account[i]} euros" for i in range(growers)]
+    for j in range(pilots):
+        pay, cents = account[growers + 2 * j], account[growers + 2 * j + 1]
+        lines.append(f"pilot {j} is paid {pay} euros, commission {cents // 100}.{cents % 100:02} euros")
+    return lines
 
 
 def main():
@@ -65,7 +87,11 @@ def main():
         ticket = file.read()
     with open(sys.argv[3], "rb") as file:
         settlement = file.read()
-    print(in_words(load(sys.argv[1])(ticket, len(ticket), settlement, len(settlement))))
+    exchange = load(sys.argv[1])
+    mark = exchange.exchange_mark(ticket, len(ticket), settlement, len(settlement))
+    print(in_words(mark))
+    if mark & 0xFF == SOUND:
+        print("\n".join(account_lines(exchange, ticket, settlement)))
 
 
 if __name__ == "__main__":

@@ -1,6 +1,7 @@
 #!/usr/bin/env bash
 # Builds mark.c, and a shared object for mark.py, over the proved archive, and runs both on the example files.
-# Each says what it must. The exit status is 1 if any does not, or if something cannot be built.
+# Each says what it must: the verdict, and of a sound settlement the account. The exit status is 1 if any does not, or if something
+# cannot be built.
 set -eu
 root=$(cd "$(dirname "$0")/.." && pwd)
 examples=$root/examples
@@ -31,20 +32,36 @@ compare() {
     fi
 }
 
-# expect TICKET SETTLEMENT WORDS
+# expect TICKET SETTLEMENT LINE..
 expect() {
-    local ticket=$examples/$1.ticket settlement=$examples/$2.settlement
-    printf '%-28s %s\n' "$2" "$3"
-    compare "mark.c $1 $2" "$3" "$out/mark" "$ticket" "$settlement"
-    compare "mark.py $1 $2" "$3" python3 "$examples/mark.py" "$out/libexchange_c.so" "$ticket" "$settlement"
+    local name="$1 $2" ticket=$examples/$1.ticket settlement=$examples/$2.settlement shown=$2 lines line
+    shift 2
+    lines=$(printf '%s\n' "$@")
+    for line in "$@"; do
+        printf '%-28s %s\n' "$shown" "$line"
+        shown=
+    done
+    compare "mark.c $name" "$lines" "$out/mark" "$ticket" "$settlement"
+    compare "mark.py $name" "$lines" python3 "$examples/mark.py" "$out/libexchange_c.so" "$ticket" "$settlement"
 }
 
 expect small small-no_hours "not sound, verdict 7: the tariff deal of grower 0 and pilot 0 is idle"
-expect two_pilots two_pilots-sound "sound: 4 deals looked at"
+expect two_pilots two_pilots-sound "sound: 4 deals looked at" \
+    "grower 0 gains 7 euros" \
+    "pilot 0 is paid 3 euros, commission 0.20 euros" \
+    "pilot 1 is paid 0 euros, commission 0.00 euros"
 expect two_pilots two_pilots-pay_above_3 "not sound, verdict 8: the free deal of grower 0 and pilot 1 blocks"
-expect both_deals both_deals-sound "sound: 2 deals looked at"
+expect both_deals both_deals-sound "sound: 2 deals looked at" \
+    "grower 0 gains 0 euros" \
+    "pilot 0 is paid 12 euros, commission 0.78 euros"
 expect both_deals both_deals-tariff_hour "not sound, verdict 8: the free deal of grower 0 and pilot 0 blocks"
-expect week week-sound "sound: 18 deals looked at"
+expect week week-sound "sound: 18 deals looked at" \
+    "grower 0 gains 140 euros" \
+    "grower 1 gains 60 euros" \
+    "grower 2 gains 210 euros" \
+    "pilot 0 is paid 300 euros, commission 17.20 euros" \
+    "pilot 1 is paid 280 euros, commission 16.36 euros" \
+    "pilot 2 is paid 285 euros, commission 16.57 euros"
 expect week week-one_hour_less "not sound, verdict 7: the tariff deal of grower 0 and pilot 0 is idle"
 expect week week-grower_over_hours "not sound, verdict 5: grower 1 has more hours in deals than of his own"
 expect week week-cut_short "refused with 11: the settlement ends early"
