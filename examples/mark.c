@@ -31,6 +31,7 @@ static const char *const refusals[] = {
     "the settlement's growers or pilots are not the ticket's",
     "the settlement has bytes left over",
     "the settlement is not sound",
+    "the ticket has a cap above 0, but the grower or the pilot has no hours",
 };
 
 static int read_file(const char *name, uint8_t *bytes, size_t *length)

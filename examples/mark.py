@@ -24,6 +24,7 @@ REFUSALS = {
     14: "the settlement's kind is not 2",
     15: "the settlement's growers or pilots are not the ticket's",
     16: "the settlement has bytes left over",
+    18: "the ticket has a cap above 0, but the grower or the pilot has no hours",
 }
 
 FAULTS = {

@@ -64,6 +64,7 @@ expect week week-sound "sound: 18 deals looked at" \
     "pilot 2 is paid 285 euros, commission 16.57 euros"
 expect week week-one_hour_less "not sound, verdict 7: the tariff deal of grower 0 and pilot 0 is idle"
 expect week week-grower_over_hours "not sound, verdict 5: grower 1 has more hours in deals than of his own"
+expect week_pilot_off week-sound "refused with 18: the ticket has a cap above 0, but the grower or the pilot has no hours"
 expect week week-cut_short "refused with 11: the settlement ends early"
 expect week small-no_hours "refused with 15: the settlement's growers or pilots are not the ticket's"
 

@@ -67,33 +67,34 @@ static inline uint32_t exchange_refusal(uint32_t reply)
 /*
  * Turns a ticket's bytes into its list of numbers: kind, n, m, everybody's
  * hours, and five numbers for each pair. Returns how many there are. Refusals 1
- * to 9 are about the ticket; 10 says that the list is shorter than the ticket.
+ * to 9 and 18 are about the ticket; 10 says that the list is shorter than the
+ * ticket.
  */
 uint32_t exchange_unpack(const uint8_t *ticket, size_t ticket_length,
                          uint16_t *list, size_t list_length);
 
 /*
  * The reverse: turns a list of numbers into a ticket's bytes. Returns how many
- * there are. Refusals 1 and 4 to 9 are about the list; 10 says that the buffer is
- * shorter than the ticket.
+ * there are. Refusals 1, 4 to 9 and 18 are about the list; 10 says that the buffer
+ * is shorter than the ticket.
  */
 uint32_t exchange_pack(const uint16_t *list, size_t list_length,
                        uint8_t *ticket, size_t ticket_length);
 
 /*
  * Writes a sound settlement of a ticket. Returns its length in bytes. Refusals 1
- * to 9 are about the ticket; 10 says that the buffer has fewer than 3 + 4nm bytes
- * for n growers and m pilots, though the settlement itself may be shorter.
+ * to 9 and 18 are about the ticket; 10 says that the buffer has fewer than 3 + 4nm
+ * bytes for n growers and m pilots, though the settlement itself may be shorter.
  */
 uint32_t exchange_settle(const uint8_t *ticket, size_t ticket_length,
                          uint8_t *settlement, size_t settlement_length);
 
 /*
  * Writes a ticket's sheet: the ticket settled, as lines of text, or `REFUSED` and
- * a number from 1 to 9 for a file that is no ticket. Returns its length in bytes;
- * no zero byte is written after it. The only refusal is 10: the buffer has fewer
- * than 24 + 32nm bytes for n growers and m pilots, though the sheet itself may be
- * shorter; or it is shorter than the text of a refusal.
+ * a number, 1 to 9 or 18, for a file that is no ticket. Returns its length in
+ * bytes; no zero byte is written after it. The only refusal is 10: the buffer has
+ * fewer than 24 + 32nm bytes for n growers and m pilots, though the sheet itself
+ * may be shorter; or it is shorter than the text of a refusal.
  */
 uint32_t exchange_sheet(const uint8_t *ticket, size_t ticket_length,
                         uint8_t *text, size_t text_length);
@@ -102,8 +103,9 @@ uint32_t exchange_sheet(const uint8_t *ticket, size_t ticket_length,
  * Writes the account of a ticket and a sound settlement of it: what each grower
  * gains in euros; then, for each pilot, what he is paid in euros and the
  * commission on it in cents. Returns how many numbers that is, n + 2m. Refusals 1
- * to 9 are about the ticket, 11 to 16 about the settlement; 17 says that the
- * settlement is not sound, and 10, last, that the list is shorter than the account.
+ * to 9 and 18 are about the ticket and come first, 11 to 16 about the settlement;
+ * 17 says that the settlement is not sound, and 10, last, that the list is shorter
+ * than the account.
  */
 uint32_t exchange_account(const uint8_t *ticket, size_t ticket_length,
                           const uint8_t *settlement, size_t settlement_length,
@@ -116,7 +118,7 @@ uint32_t exchange_account(const uint8_t *ticket, size_t ticket_length,
 uint64_t exchange_mark(const uint8_t *ticket, size_t ticket_length,
                        const uint8_t *settlement, size_t settlement_length);
 
-/* Why a mark is none: 1 to 9 the ticket, 11 to 16 the settlement. 0 if it is one. */
+/* Why a mark is none: 1 to 9 and 18 the ticket, 11 to 16 the settlement. 0 if it is one. */
 static inline uint32_t exchange_mark_refusal(uint64_t mark)
 {
     return (uint32_t)(mark >> 56);

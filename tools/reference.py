@@ -98,11 +98,12 @@ def ticket_numbers(take, left):
     take_checked(lambda x: x != 1, 4)
     n = take_checked(lambda x: not 1 <= x <= 16, 5)
     m = take_checked(lambda x: not 1 <= x <= 16, 5)
-    for _ in range(n + m):
-        take_checked(lambda x: x > 60, 6)
-    for _ in range(n * m):
+    grower_hours, pilot_hours = ([take_checked(lambda x: x > 60, 6) for _ in range(parties)] for parties in (n, m))
+    for of_grower, of_pilot in itertools.product(grower_hours, pilot_hours):
         for amounts in (2, 1):  # a tariff deal has two amounts, a free deal one
             cap = take_checked(lambda x: x > 60, 7)
+            if cap > 0 and (of_grower == 0 or of_pilot == 0):
+                raise Refused(18)
             for _ in range(amounts):
                 amount = take_checked(lambda x: x > 500, 7)
                 if cap == 0 and amount != 0:

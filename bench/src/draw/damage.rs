@@ -1,7 +1,9 @@
 //! Damaged files and lists: near misses, and random ones.
 
 use super::generator::Generator;
+use super::old_caps::{Beside, with_old_cap};
 use crate::plain::numbers::write_number;
+use crate::plain::ticket::Ticket;
 
 /// What was done to a good input.
 #[derive(Clone, Copy, Debug, PartialEq, Eq)]
@@ -15,6 +17,8 @@ pub enum Damage {
     Removed,
     RandomShort,
     RandomLong,
+    /// Of a ticket only.
+    OldCap(Beside),
 }
 
 impl Damage {
@@ -29,6 +33,10 @@ impl Damage {
             Damage::Removed => "one left out",
             Damage::RandomShort => "random, short",
             Damage::RandomLong => "random, long",
+            Damage::OldCap(Beside::Nothing) => "cap without hours",
+            Damage::OldCap(Beside::CapAboveLimit) => "cap without hours, above its limit",
+            Damage::OldCap(Beside::LaterFault) => "cap without hours before another fault",
+            Damage::OldCap(Beside::EarlierFault) => "cap without hours after another fault",
         }
     }
 }
@@ -52,6 +60,29 @@ const OF_LISTS: [Damage; 6] = [
     Damage::Extended,
     Damage::Removed,
 ];
+
+/// A ticket's file, whole or damaged; once in eight with an old cap.
+pub fn damaged_ticket_file(generator: &mut Generator, ticket: &Ticket) -> (Damage, Vec<u8>) {
+    if generator.once_in(8) {
+        let (damage, numbers) = with_any_old_cap(generator, ticket);
+        return (damage, write(&numbers));
+    }
+    damaged_file(generator, &ticket.numbers())
+}
+
+/// A ticket's numbers, in the same way.
+pub fn damaged_ticket_list(generator: &mut Generator, ticket: &Ticket) -> (Damage, Vec<u16>) {
+    if generator.once_in(8) {
+        return with_any_old_cap(generator, ticket);
+    }
+    damaged_list(generator, &ticket.numbers())
+}
+
+fn with_any_old_cap(generator: &mut Generator, ticket: &Ticket) -> (Damage, Vec<u16>) {
+    let beside = generator.one_of(&Beside::ALL);
+    let numbers = with_old_cap(generator, ticket, beside);
+    (Damage::OldCap(beside), numbers)
+}
 
 /// A file of these numbers, whole or damaged; once in ten random bytes.
 pub fn damaged_file(generator: &mut Generator, numbers: &[u16]) -> (Damage, Vec<u8>) {
@@ -85,7 +116,7 @@ fn file_with(generator: &mut Generator, numbers: &[u16], damage: Damage) -> Vec<
 }
 
 /// These numbers, whole or damaged; once in ten random numbers.
-pub fn damaged_list(generator: &mut Generator, numbers: &[u16]) -> (Damage, Vec<u16>) {
+fn damaged_list(generator: &mut Generator, numbers: &[u16]) -> (Damage, Vec<u16>) {
     if generator.once_in(10) {
         let list = random_list(generator);
         return (random_of(list.len()), list);

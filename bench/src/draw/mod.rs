@@ -2,6 +2,7 @@
 
 pub mod damage;
 pub mod generator;
+pub mod old_caps;
 pub mod settlements;
 pub mod shapes;
 pub mod tickets;

@@ -40,12 +40,24 @@ pub fn any_ticket(generator: &mut Generator) -> Ticket {
 
 pub fn ticket(generator: &mut Generator, growers: usize, pilots: usize, style: Style) -> Ticket {
     let mut party_hours = |pilot| hours(generator, style, pilot);
-    Ticket {
+    let mut ticket = Ticket {
         grower_hours: (0..growers).map(|_| party_hours(false)).collect(),
         pilot_hours: (0..pilots).map(|_| party_hours(true)).collect(),
         terms: (0..growers * pilots)
             .map(|_| terms(generator, style))
             .collect(),
+    };
+    clear_without_hours(&mut ticket);
+    ticket
+}
+
+/// Who has no hours has no deals.
+fn clear_without_hours(ticket: &mut Ticket) {
+    let pilots = ticket.pilots();
+    for (pair, terms) in ticket.terms.iter_mut().enumerate() {
+        if ticket.grower_hours[pair / pilots] == 0 || ticket.pilot_hours[pair % pilots] == 0 {
+            *terms = Terms::default();
+        }
     }
 }
 

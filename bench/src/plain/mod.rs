@@ -32,6 +32,7 @@ pub enum Refusal {
     OtherParties = 15,
     SettlementBytesLeft = 16,
     NotSound = 17,
+    CapWithoutHours = 18,
 }
 
 /// The two deals of a pair.

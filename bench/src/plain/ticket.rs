@@ -136,12 +136,14 @@ impl<S: Source> Reading<S> {
         self.number(|kind| kind == KIND, Refusal::NoTicket)?;
         let growers = self.parties()?;
         let pilots = self.parties()?;
-        for _ in 0..growers + pilots {
-            self.number(|hours| hours <= MOST_HOURS, Refusal::HoursAboveLimit)?;
-        }
-        for _ in 0..growers * pilots {
-            self.deal(2)?;
-            self.deal(1)?;
+        let growers_without = self.without_hours(growers)?;
+        let pilots_without = self.without_hours(pilots)?;
+        for grower in 0..growers {
+            for pilot in 0..pilots {
+                let without = (growers_without >> grower | pilots_without >> pilot) & 1 != 0;
+                self.deal(2, without)?;
+                self.deal(1, without)?;
+            }
         }
         if self.source.is_finished() {
             Ok(())
@@ -166,9 +168,22 @@ impl<S: Source> Reading<S> {
         )
     }
 
-    /// A cap and so many amounts, which are 0 if the cap is.
-    fn deal(&mut self, amounts: usize) -> Result<(), Refusal> {
+    /// The hours of so many parties; the answer has a bit for each that has none.
+    fn without_hours(&mut self, parties: u16) -> Result<u16, Refusal> {
+        let mut without = 0;
+        for party in 0..parties {
+            let hours = self.number(|hours| hours <= MOST_HOURS, Refusal::HoursAboveLimit)?;
+            without |= u16::from(hours == 0) << party;
+        }
+        Ok(without)
+    }
+
+    /// A cap, which is 0 if the grower or the pilot is without hours, and so many amounts, which are 0 if the cap is.
+    fn deal(&mut self, amounts: usize, without_hours: bool) -> Result<(), Refusal> {
         let cap = self.number(|cap| cap <= MOST_HOURS, Refusal::TermAboveLimit)?;
+        if without_hours && cap != 0 {
+            return Err(Refusal::CapWithoutHours);
+        }
         for _ in 0..amounts {
             let amount = self.number(|amount| amount <= MOST_AMOUNT, Refusal::TermAboveLimit)?;
             if cap == 0 && amount != 0 {

@@ -4,6 +4,7 @@
 mod account;
 mod buffers;
 mod mark;
+mod old_caps;
 mod pack;
 mod paper;
 mod settle;

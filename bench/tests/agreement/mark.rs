@@ -1,4 +1,4 @@
-use exchange_bench::draw::damage::{Damage, damaged_file};
+use exchange_bench::draw::damage::{Damage, damaged_file, damaged_ticket_file};
 use exchange_bench::draw::generator::Generator;
 use exchange_bench::draw::settlements::any_settlement;
 use exchange_bench::draw::tickets::any_ticket;
@@ -8,6 +8,7 @@ use exchange_bench::plain::ticket::Ticket;
 use exchange_bench::plain::{Refusal, cheapest, mark::Verdict};
 use exchange_bench::proved::{self, Answer};
 
+use crate::old_caps::{assert_refused, kinds};
 use crate::tally::Tally;
 
 const TICKETS: usize = 12_000;
@@ -27,8 +28,8 @@ pub fn as_proved(answer: Result<Verdict, Refusal>) -> Answer<proved::Verdict> {
     }
 }
 
-/// The proved marker, the one that tries every spare, and the one by cheapest spares agree.
-fn same_mark(ticket: &[u8], settlement: &[u8], tally: &mut Tally) {
+/// The proved marker, the one that tries every spare, and the one by cheapest spares agree. Answers with their refusal.
+fn same_mark(ticket: &[u8], settlement: &[u8], tally: &mut Tally) -> Option<u8> {
     let answer = proved::mark(ticket, settlement);
     assert_eq!(answer, as_proved(mark(ticket, settlement)));
     assert_eq!(answer, as_proved(cheapest::mark(ticket, settlement)));
@@ -36,6 +37,7 @@ fn same_mark(ticket: &[u8], settlement: &[u8], tally: &mut Tally) {
     if let Ok(verdict) = answer {
         tally.verdict(verdict.number);
     }
+    answer.err()
 }
 
 pub fn sound_settlement(ticket: &Ticket) -> Settlement {
@@ -60,13 +62,14 @@ fn mark_agrees() {
         let (damage, file) = damaged_file(&mut generator, &sound.numbers());
         same_mark(&bytes, &file, &mut tally);
         tally.compared(format!("settlement's file {}", damage.name()));
-        let (damage, file) = damaged_file(&mut generator, &ticket.numbers());
+        let (damage, file) = damaged_ticket_file(&mut generator, &ticket);
         if damage != Damage::None {
-            same_mark(&file, &sound.bytes(), &mut tally);
+            assert_refused(damage, same_mark(&file, &sound.bytes(), &mut tally));
             tally.compared(format!("ticket's file {}", damage.name()));
         }
     }
     tally.report("mark");
-    tally.expect_refusals((1..=9).chain(11..=16));
+    tally.expect_refusals((1..=9).chain(11..=16).chain([18]));
+    tally.expect_kinds(kinds("ticket's file "));
     tally.expect_verdicts(1..=8);
 }

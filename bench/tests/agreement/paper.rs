@@ -47,14 +47,19 @@ fn marked_sittings() {
 
 #[test]
 fn refused_files() {
-    let files: [(&[u8], u8); 7] = [
+    let files: [(&[u8], u8); 11] = [
         (&[], 1),
         (&[0x80, 0x80], 2),
         (&[0x81, 0x00], 3),
         (&[1, 0], 5),
         (&[1, 17], 5),
         (&[1, 1, 1, 0x3d], 6),
-        (&[1, 1, 1, 0, 0, 1, 0xf5, 0x03], 7),
+        (&[1, 1, 1, 1, 1, 1, 0xf5, 0x03], 7),
+        // of the request 2026-02: at the tariff cap and at the free one, after 7 and before anything later
+        (&[1, 1, 1, 0, 2, 1, 0xf5, 0x03], 18),
+        (&[1, 1, 1, 3, 0, 0, 0, 0, 1], 18),
+        (&[1, 1, 1, 0, 0, 0x3d], 7),
+        (&[1, 1, 1, 0, 2, 0, 1, 0, 1], 8),
     ];
     for (file, refusal) in files {
         assert_eq!(unpacked(file), Err(refusal));
@@ -64,7 +69,7 @@ fn refused_files() {
 #[test]
 fn greatest_numbers_pass() {
     assert_eq!(unpacked(&[1, 1, 1, 0x3c, 0x3c, 0, 0, 0, 0, 0]), Ok(10));
-    assert_eq!(unpacked(&[1, 1, 1, 0, 0, 1, 0xf4, 3, 0, 0, 0]), Ok(10));
+    assert_eq!(unpacked(&[1, 1, 1, 1, 1, 1, 0xf4, 3, 0, 0, 0]), Ok(10));
 }
 
 fn unpacked(file: &[u8]) -> Result<usize, u8> {

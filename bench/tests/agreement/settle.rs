@@ -1,4 +1,4 @@
-use exchange_bench::draw::damage::damaged_file;
+use exchange_bench::draw::damage::damaged_ticket_file;
 use exchange_bench::draw::generator::Generator;
 use exchange_bench::draw::shapes::shapes;
 use exchange_bench::draw::tickets::{STYLES, any_ticket, ticket};
@@ -9,6 +9,7 @@ use exchange_bench::plain::ticket::Ticket;
 use exchange_bench::proved;
 
 use crate::buffers::{Room, same_answer};
+use crate::old_caps::{assert_refused, kinds};
 use crate::tally::Tally;
 
 const INPUTS: usize = 20_000;
@@ -39,7 +40,7 @@ fn settle_agrees() {
     let mut tally = Tally::default();
     for _ in 0..INPUTS {
         let ticket = any_ticket(&mut generator);
-        let (damage, bytes) = damaged_file(&mut generator, &ticket.numbers());
+        let (damage, bytes) = damaged_ticket_file(&mut generator, &ticket);
         let room = generator.one_of(&Room::ALL);
         let length = room.length(&mut generator, room_needed(&ticket));
         let answer = same_answer(
@@ -47,12 +48,14 @@ fn settle_agrees() {
             |settlement| proved::settle(&bytes, settlement),
             |settlement| settle(&bytes, settlement),
         );
+        assert_refused(damage, answer.err());
         tally.compared(damage.name());
         tally.kind(room.name());
         tally.answered(answer);
     }
     tally.report("settle");
-    tally.expect_refusals(1..=10);
+    tally.expect_refusals((1..=10).chain([18]));
+    tally.expect_kinds(kinds(""));
 }
 
 #[test]

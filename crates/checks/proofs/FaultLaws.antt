@@ -9,8 +9,9 @@ use Rattle.groups.specs.Groups.{groups}
 use Rattle.checks.specs.declared.ticket.Field.{Field}
 use Rattle.checks.specs.declared.ticket.Field.the-variants.{Kind, Growers, Pilots, Hours, TariffCap, TariffGain, TariffPay, FreeCap}
 use Rattle.checks.specs.declared.ticket.Field.the-variants.{FreeGain}
-use Rattle.checks.specs.Refusals.{ticketRefusals, settlementRefusals, hoursAboveLimit, aboveLimit, amountWithoutCap, must, first}
-use Rattle.checks.specs.TicketFaults.{partyFault, capFault, amountFault, faultOf}
+use Rattle.checks.specs.Refusals.{ticketRefusals, settlementRefusals, hoursAboveLimit, aboveLimit, amountWithoutCap, capWithoutHours}
+use Rattle.checks.specs.Refusals.{must, first}
+use Rattle.checks.specs.TicketFaults.{partyFault, zeroCapFault, amountFault, noHoursFault, capFault, faultOf}
 use Rattle.checks.specs.SettlementFaults.{placeFault, settlementFault}
 use Rattle.grid.proofs.Cases.{never}
 
@@ -38,7 +39,7 @@ party-range x e = go (leb 1 x) refl e
 pub amount-range : (cap x : ℕ) → amountFault cap x ≡ 0 → x ≤ 500
 amount-range cap x e = go (leb x 500) refl e
   where
-    go : (t : Bool) → leb x 500 ≡ t → first (must t aboveLimit) (capFault cap x) ≡ 0 → x ≤ 500
+    go : (t : Bool) → leb x 500 ≡ t → first (must t aboveLimit) (zeroCapFault cap x) ≡ 0 → x ≤ 500
     go true l e = leb-true x 500 l
     go false l e = never cc
 
@@ -47,6 +48,20 @@ amount-none cap x e z = go (leb x 500) (rw z at e)
   where
     go : (t : Bool) → first (must t aboveLimit) (must (eqb x 0) amountWithoutCap) ≡ 0 → x ≡ 0
     go true e = eqb-true x 0 (must-holds (eqb x 0) amountWithoutCap (lit< tt) e)
+    go false e = never cc
+
+pub cap-range : (none : Bool) (x : ℕ) → capFault none x ≡ 0 → x ≤ 60
+cap-range none x e = go (leb x 60) refl e
+  where
+    go : (t : Bool) → leb x 60 ≡ t → first (must t aboveLimit) (noHoursFault none x) ≡ 0 → x ≤ 60
+    go true l e = leb-true x 60 l
+    go false l e = never cc
+
+pub cap-none : (none : Bool) (x : ℕ) → capFault none x ≡ 0 → none ≡ true → x ≡ 0
+cap-none none x e n = go (leb x 60) (rw n at e)
+  where
+    go : (t : Bool) → first (must t aboveLimit) (must (eqb x 0) capWithoutHours) ≡ 0 → x ≡ 0
+    go true e = eqb-true x 0 (must-holds (eqb x 0) capWithoutHours (lit< tt) e)
     go false e = never cc
 
 -- The largest number of a field.
@@ -61,16 +76,16 @@ mostOf TariffPay = 500
 mostOf FreeCap = 60
 mostOf FreeGain = 500
 
-pub field-range : (f : Field) (cap x : ℕ) → faultOf f cap x ≡ 0 → x ≤ mostOf f
-field-range Kind cap x e = omega (arith, eqb-true x 1 (must-holds (eqb x 1) (ticketRefusals .kind) (lit< tt) e))
-field-range Growers cap x e = party-range x e .1
-field-range Pilots cap x e = party-range x e .1
-field-range Hours cap x e = leb-true x 60 (must-holds (leb x 60) hoursAboveLimit (lit< tt) e)
-field-range TariffCap cap x e = leb-true x 60 (must-holds (leb x 60) aboveLimit (lit< tt) e)
-field-range TariffGain cap x e = amount-range cap x e
-field-range TariffPay cap x e = amount-range cap x e
-field-range FreeCap cap x e = leb-true x 60 (must-holds (leb x 60) aboveLimit (lit< tt) e)
-field-range FreeGain cap x e = amount-range cap x e
+pub field-range : (f : Field) (cap : ℕ) (none : Bool) (x : ℕ) → faultOf f cap none x ≡ 0 → x ≤ mostOf f
+field-range Kind cap none x e = omega (arith, eqb-true x 1 (must-holds (eqb x 1) (ticketRefusals .kind) (lit< tt) e))
+field-range Growers cap none x e = party-range x e .1
+field-range Pilots cap none x e = party-range x e .1
+field-range Hours cap none x e = leb-true x 60 (must-holds (leb x 60) hoursAboveLimit (lit< tt) e)
+field-range TariffCap cap none x e = cap-range none x e
+field-range TariffGain cap none x e = amount-range cap x e
+field-range TariffPay cap none x e = amount-range cap x e
+field-range FreeCap cap none x e = cap-range none x e
+field-range FreeGain cap none x e = amount-range cap x e
 
 -- A settlement's number has no fault exactly where it has few groups and no fault at its place. Pairs have none there.
 pub settlement-passes : (n m p x : ℕ) → settlementFault n m p x ≡ 0 → (x < 128 ^ groups) × (placeFault n m p x ≡ 0)

@@ -1,2 +1,3 @@
 -- The laws of `checks`, which `reader` cites.
 pub mod FaultLaws
+pub mod HourLaws

@@ -28,6 +28,10 @@ aboveLimit = 7
 abbrev pub amountWithoutCap : ℕ
 amountWithoutCap = 8
 
+-- 18: a cap above 0 in a deal of somebody without hours.
+abbrev pub capWithoutHours : ℕ
+capWithoutHours = 18
+
 -- 10: the lent list or buffer is too short.
 abbrev pub noRoom : ℕ
 noRoom = 10

@@ -1,9 +1,12 @@
 // What is wrong with one number of a document: its refusal number, or 0 if nothing is.
 
+mod hours; // hours.rt: who has no hours
 mod refusals; // refusals.rt: the refusal numbers
 mod settlement; // settlement.rt: the places of a settlement
 mod ticket; // ticket.rt: the fields of a ticket
 
+pub use hours::noted;
+pub use hours::pair_has_none;
 pub use refusals::Document;
 pub use refusals::NO_ROOM;
 pub use refusals::NOT_SOUND;

@@ -25,6 +25,8 @@ pub(crate) const ABOVE_LIMIT: u8 = 7;
 
 pub(crate) const AMOUNT_WITHOUT_CAP: u8 = 8;
 
+pub(crate) const CAP_WITHOUT_HOURS: u8 = 18;
+
 pub const NO_ROOM: u8 = 10;
 
 pub const NOT_SOUND: u8 = 17;

@@ -1,8 +1,9 @@
 // The fields of a ticket, and the range of each.
 ghost use mathlib.Core.Path.{_≡_};
-ghost use Rattle.checks.specs.TicketFaults.{partyFault, capFault, amountFault, faultOf};
+ghost use Rattle.checks.specs.TicketFaults.{partyFault, zeroCapFault, amountFault, noHoursFault, capFault, faultOf};
 use crate::refusals::ABOVE_LIMIT;
 use crate::refusals::AMOUNT_WITHOUT_CAP;
+use crate::refusals::CAP_WITHOUT_HOURS;
 use crate::refusals::Document;
 use crate::refusals::HOURS_ABOVE_LIMIT;
 use crate::refusals::first;
@@ -30,8 +31,8 @@ fn party_fault(why: u8, x: usize) -> u8
 }
 
 // In a deal of cap 0 an amount is 0.
-fn cap_fault(cap: usize, x: usize) -> u8
-    ensures { λ r. ⌜ r ≡ capFault cap x ⌝ }
+fn zero_cap_fault(cap: usize, x: usize) -> u8
+    ensures { λ r. ⌜ r ≡ zeroCapFault cap x ⌝ }
 {
     if cap == 0 {
         must(x == 0, AMOUNT_WITHOUT_CAP)
@@ -44,12 +45,33 @@ fn cap_fault(cap: usize, x: usize) -> u8
 fn amount_fault(cap: usize, x: usize) -> u8
     ensures { λ r. ⌜ r ≡ amountFault cap x ⌝ }
 {
-    first(must(x <= 500, ABOVE_LIMIT), cap_fault(cap, x))
+    first(must(x <= 500, ABOVE_LIMIT), zero_cap_fault(cap, x))
 }
 
-// What is wrong with a number in a field, where the last cap was `cap`; 0 if nothing is.
-pub fn fault_of(field: Field, cap: usize, x: usize) -> u8
-    ensures { λ r. ⌜ r ≡ faultOf field cap x ⌝ }
+// In a deal of somebody without hours a cap is 0.
+fn no_hours_fault(none: bool, x: usize) -> u8
+    ensures { λ r. ⌜ r ≡ noHoursFault none x ⌝ }
+{
+    if none {
+        must(x == 0, CAP_WITHOUT_HOURS)
+    } else {
+        0
+    }
+}
+
+// The limit is tested before the hours.
+fn cap_fault(none: bool, x: usize) -> u8
+    ensures { λ r. ⌜ r ≡ capFault none x ⌝ }
+{
+    let limit = must(x <= 60, ABOVE_LIMIT);
+    let hours = no_hours_fault(none, x);
+    first(limit, hours)
+}
+
+// What is wrong with a number in a field; 0 if nothing is. `cap` is the last cap, and `none` says whether somebody of the pair has no
+// hours.
+pub fn fault_of(field: Field, cap: usize, none: bool, x: usize) -> u8
+    ensures { λ r. ⌜ r ≡ faultOf field cap none x ⌝ }
 {
     let refusals = refusals_of(Document::Ticket);
     match field {
@@ -57,10 +79,10 @@ pub fn fault_of(field: Field, cap: usize, x: usize) -> u8
         Field::Growers => party_fault(refusals.parties, x),
         Field::Pilots => party_fault(refusals.parties, x),
         Field::Hours => must(x <= 60, HOURS_ABOVE_LIMIT),
-        Field::TariffCap => must(x <= 60, ABOVE_LIMIT),
+        Field::TariffCap => cap_fault(none, x),
         Field::TariffGain => amount_fault(cap, x),
         Field::TariffPay => amount_fault(cap, x),
-        Field::FreeCap => must(x <= 60, ABOVE_LIMIT),
+        Field::FreeCap => cap_fault(none, x),
         Field::FreeGain => amount_fault(cap, x),
     }
 }

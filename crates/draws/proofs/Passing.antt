@@ -3,37 +3,32 @@
 use mathlib.Core.Path.{_≡_, refl, sym, ap, _∙_}
 use mathlib.Core.Bool.{Bool, true, false, cond, _&&_}
 use mathlib.Core.List.{List, _++_}
-use Prim.Native.Nat.{ℕ, zero, suc, _+_, _*_, _-_, _%_, _≤_, _<_}
+use Prim.Native.Nat.{ℕ, zero, suc, _+_, _*_, _-_, _/_, _%_, _≤_, _<_}
 use native.Mathlib.Omega.{arith}
-use borrow.Author.Tests.{lt-ltb, le-ltb, le-leb, leb-true}
+use borrow.Author.Tests.{lt-ltb, le-leb, leb-true}
 use lib.Dec.{leb, eqb, lit<}
 use lib.ListN.{length}
 use lib.Seq.{sets}
 use Rattle.grid.proofs.Cases.{never}
 use Rattle.reader.specs.declared.Reply.{Reply}
 use Rattle.checks.specs.Refusals.{ticketRefusals, aboveLimit, noRoom, must, first}
-use Rattle.checks.specs.TicketFaults.{partyFault, amountFault}
+use Rattle.checks.specs.TicketFaults.{partyFault, amountFault, capFault}
+use Rattle.checks.specs.Hours.{notedAll, noneOf, noneIn}
+use Rattle.checks.proofs.HourLaws.{none-noted}
 use Rattle.groups.specs.Groups.{pack}
 use Rattle.reader.specs.Walk.{Numbers, readHead}
 use Rattle.reader.specs.State.{start}
-use Rattle.reader.specs.Ticket.{placeField, dealField}
 use Rattle.reader.specs.Layout.{ticket}
 use Rattle.reader.specs.Answer.{packed, reply, Tells, kept}
 use Rattle.reader.proofs.WalkLaws.{Good, Accepted, accepts-form}
 use Rattle.reader.proofs.Undoing.{head-whole}
 use Rattle.reader.proofs.Telling.{tells, refuses}
 use Rattle.reader.proofs.Facts.{reply-with-room, reply-without-room, kept-without-room}
-use Rattle.reader.proofs.TicketLaws.{Stands, place-after}
+use Rattle.reader.proofs.TicketLaws.{Stands, place-after, deal-place}
 use Rattle.draws.specs.Generator as generator
 use Rattle.draws.specs.Drawn.{hoursFrom, capFrom, drawnHours, drawnPairs, ticketFrom}
 use Rattle.draws.specs.Drawn.{inRange, bothInRange, drawn, Passes}
-use Rattle.draws.proofs.Storing.{ticket-length}
-
--- The field at a place of a pair.
-deal-place : (n m q i p : ℕ) → i < 5 → p ≡ 3 + n + m + 5 * q + i → placeField n m p ≡ dealField i
-deal-place n m q i p h e =
-    let r : (p - 3 - (n + m)) % 5 ≡ i = omega arith in
-    rw (place-after n m p (omega arith), le-ltb (p - 3) (n + m) (omega arith), r)
+use Rattle.draws.proofs.Storing.{hours-length, ticket-length}
 
 -- An amount that is small, and 0 without a cap, has no fault.
 amount-good : (cap x : ℕ) → x ≤ 500 → amountFault cap (cond (eqb cap 0) 0 x) ≡ 0
@@ -43,10 +38,16 @@ amount-good cap x h = go (eqb cap 0)
     go true = refl
     go false = rw (le-leb x 500 h)
 
+-- A cap is small, and 0 in a deal of somebody without hours.
+cap-good : (none : Bool) (x : ℕ) → capFault none (capFrom none x) ≡ 0
+cap-good true x = refl
+cap-good false x = rw (le-leb (x % 8 - 1) 60 (omega arith))
+
 hours-good : (n m k x : ℕ) (ys : List ℕ) (s : ticket .State) (p : ℕ) → Stands s n m p → 3 ≤ p → p + k ≡ 3 + n + m →
-    ((t : ticket .State) → Stands t n m (3 + n + m) → Good ticket t ys) → Good ticket s (drawnHours k x ++ ys)
+    ((t : ticket .State) → Stands t n m (3 + n + m) → t .without ≡ notedAll (s .without) (drawnHours k x) → Good ticket t ys) →
+    Good ticket s (drawnHours k x ++ ys)
 hours-good n m zero x ys s p t h e later =
-    later s (record { growers = t .growers; pilots = t .pilots; place = omega (arith, t .place) })
+    later s (record { growers = t .growers; pilots = t .pilots; place = omega (arith, t .place) }) refl
 hours-good n m (suc k) x ys s p t h e later =
     rw (t .growers, t .pilots, t .place, place-after n m p h, lt-ltb (p - 3) (n + m) (omega arith)) (
       rw (le-leb (hoursFrom x) 60 (omega arith)),
@@ -54,11 +55,12 @@ hours-good n m (suc k) x ys s p t h e later =
           (omega arith) later,
     )
 
-pairs-good : (n m k x q : ℕ) (s : ticket .State) → s .growers ≡ n → s .pilots ≡ m → s .place ≡ 3 + n + m + 5 * q → Good ticket s
-    (drawnPairs k x)
-pairs-good n m zero x q s eg ep e = tt
-pairs-good n m (suc k) x q s eg ep e =
+pairs-good : (none : ℕ → Bool) (n m k x q : ℕ) (s : ticket .State) → s .growers ≡ n → s .pilots ≡ m → s .place ≡ 3 + n + m + 5 * q →
+    ((p : ℕ) → p < q + k → noneOf (s .without) n m p ≡ none p) → Good ticket s (drawnPairs none q k x)
+pairs-good none n m zero x q s eg ep e same = tt
+pairs-good none n m (suc k) x q s eg ep e same =
     let p = s .place in
+    let here : (p - 3 - (n + m)) / 5 ≡ q = omega arith in
     rw (
       eg,
       ep,
@@ -67,17 +69,19 @@ pairs-good n m (suc k) x q s eg ep e =
       deal-place n m q 2 (p + 1 + 1) (lit< tt) (omega arith),
       deal-place n m q 3 (p + 1 + 1 + 1) (lit< tt) (omega arith),
       deal-place n m q 4 (p + 1 + 1 + 1 + 1) (lit< tt) (omega arith),
+      here,
+      same q (omega arith),
     ) (
-      rw (le-leb (capFrom x) 60 (omega arith)),
+      cap-good (none q) x,
       (
-        amount-good (capFrom x) _ (omega arith),
+        amount-good (capFrom (none q) x) _ (omega arith),
         (
-          amount-good (capFrom x) _ (omega arith),
+          amount-good (capFrom (none q) x) _ (omega arith),
           (
-            rw (le-leb (capFrom (generator.after 3 x)) 60 (omega arith)),
+            cap-good (none q) (generator.after 3 x),
             (
-              amount-good (capFrom (generator.after 3 x)) _ (omega arith),
-              pairs-good n m k (generator.after 5 x) (q + 1) _ refl refl (omega arith),
+              amount-good (capFrom (none q) (generator.after 3 x)) _ (omega arith),
+              pairs-good none n m k (generator.after 5 x) (q + 1) _ refl refl (omega arith) (λ r h. same r (omega arith)),
             ),
           ),
         ),
@@ -88,16 +92,18 @@ party-good : (x : ℕ) → 1 ≤ x → x ≤ 16 → partyFault (ticketRefusals .
 party-good x h l = rw (le-leb 1 x h, le-leb x 16 l)
 
 drawn-accepted : (n m x : ℕ) → 1 ≤ n → n ≤ 16 → 1 ≤ m → m ≤ 16 → Accepted ticket (ticketFrom n m x)
-drawn-accepted n m x hn ln hm lm = record {
+drawn-accepted n m x hn ln hm lm = let hours = drawnHours (n + m) x in record {
   good = (
     refl,
     (
       party-good n hn ln,
       (
         party-good m hm lm,
-        hours-good n m (n + m) x (drawnPairs (n * m) (generator.after (n + m) x)) _ 3
+        hours-good n m (n + m) x (drawnPairs (noneIn hours n m) 0 (n * m) (generator.after (n + m) x)) _ 3
             (record { growers = refl; pilots = refl; place = refl }) (omega arith) (omega arith)
-            (λ t r. pairs-good n m (n * m) (generator.after (n + m) x) 0 t (r .growers) (r .pilots) (omega (arith, r .place))),
+            (λ t r w. pairs-good (noneIn hours n m) n m (n * m) (generator.after (n + m) x) 0 t (r .growers) (r .pilots)
+            (omega (arith, r .place))
+            (λ p h. rw w (none-noted hours n m p (hours-length (n + m) x) (omega arith) (omega arith)))),
       ),
     ),
   );

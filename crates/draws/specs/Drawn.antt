@@ -7,6 +7,7 @@ use mathlib.Core.Bool.{Bool, cond, _&&_}
 use mathlib.Core.List.{List, [], _∷_, _++_}
 use lib.Dec.{leb, eqb}
 use Rattle.checks.specs.Refusals.{ticketRefusals}
+use Rattle.checks.specs.Hours.{noneIn}
 use Rattle.groups.specs.Groups.{pack}
 use Rattle.reader.specs.Walk.{Outcome, Refusal, Numbers}
 use Rattle.reader.specs.Answer.{packed}
@@ -16,9 +17,10 @@ use Rattle.draws.specs.Generator.{next, start, after}
 abbrev pub hoursFrom : ℕ → ℕ
 hoursFrom x = x % 21
 
--- Caps are 0 to 6, and 0 in two of eight cases: they bind before the hours do where partners are few.
-abbrev pub capFrom : ℕ → ℕ
-capFrom x = x % 8 - 1
+-- Caps are 0 to 6, and 0 in two of eight cases: they bind before the hours do where partners are few. In a deal of somebody without hours,
+-- which is what `none` says, they are 0.
+abbrev pub capFrom : Bool → ℕ → ℕ
+capFrom none x = cond none 0 (x % 8 - 1)
 
 -- Amounts are multiples of 25, so that there are ties: up to 250 for either side of a tariff, up to 500 for a joint gain, so that
 -- neither kind of deal is always the better one. A deal of cap 0 has amounts 0.
@@ -33,21 +35,22 @@ abbrev pub pairWith : ℕ → ℕ → ℕ → List ℕ
 pairWith tariffCap freeCap x =
     tariffCap ∷ tariffAmount tariffCap (after 1 x) ∷ tariffAmount tariffCap (after 2 x) ∷ freeCap ∷ jointAmount freeCap (after 4 x) ∷ []
 
-abbrev pub drawnPair : ℕ → List ℕ
-drawnPair x = pairWith (capFrom x) (capFrom (after 3 x)) x
+abbrev pub drawnPair : Bool → ℕ → List ℕ
+drawnPair none x = pairWith (capFrom none x) (capFrom none (after 3 x)) x
 
--- The hours of k parties, and the numbers of k pairs.
+-- The hours of k parties, and the numbers of k pairs from pair q on.
 abbrev pub drawnHours : ℕ → ℕ → List ℕ
 drawnHours zero x = []
 drawnHours (suc k) x = hoursFrom x ∷ drawnHours k (next x)
 
-abbrev pub drawnPairs : ℕ → ℕ → List ℕ
-drawnPairs zero x = []
-drawnPairs (suc k) x = drawnPair x ++ drawnPairs k (after 5 x)
+abbrev pub drawnPairs : (ℕ → Bool) → ℕ → ℕ → ℕ → List ℕ
+drawnPairs none q zero x = []
+drawnPairs none q (suc k) x = drawnPair (none q) x ++ drawnPairs none (q + 1) k (after 5 x)
 
 -- A ticket's numbers: kind, n, m, everybody's hours, the pairs.
 abbrev pub ticketFrom : ℕ → ℕ → ℕ → List ℕ
-ticketFrom n m x = 1 ∷ n ∷ m ∷ (drawnHours (n + m) x ++ drawnPairs (n * m) (after (n + m) x))
+ticketFrom n m x =
+    1 ∷ n ∷ m ∷ (drawnHours (n + m) x ++ drawnPairs (noneIn (drawnHours (n + m) x) n m) 0 (n * m) (after (n + m) x))
 
 -- n and m are 1 to 16.
 abbrev pub inRange : ℕ → Bool

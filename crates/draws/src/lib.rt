@@ -45,8 +45,15 @@ fn fill(list: &mut [u16], growers: usize, pilots: usize, pairs: usize, x: u32)
     list[1] = growers as u16;
     list[2] = pilots as u16;
     let parties = growers + pilots;
-    let after_hours = fill_hours(list, 3, parties, x);
-    fill_pairs(list, 3 + parties, pairs, after_hours);
+    let hours = fill_hours(list, 3, parties, x);
+    fill_pairs(
+        list,
+        3 + parties,
+        growers as u16,
+        pilots as u16,
+        pairs,
+        hours,
+    );
 }
 
 // Writes a ticket's numbers, if the list has room for them.

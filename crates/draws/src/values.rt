@@ -11,9 +11,13 @@ pub(crate) fn hours(x: u32) -> u16
     (x % 21) as u16
 }
 
-pub(crate) fn cap(x: u32) -> u16
-    ensures { λ r. ⌜ r ≡ capFrom x ⌝ }
+// A cap; 0, if somebody of the pair has no hours.
+pub(crate) fn cap(none: bool, x: u32) -> u16
+    ensures { λ r. ⌜ r ≡ capFrom none x ⌝ }
 {
+    if none {
+        return 0;
+    }
     let eighth = x % 8;
     if eighth == 0 { 0 } else { (eighth - 1) as u16 }
 }

@@ -39,10 +39,10 @@ fn settle(ticket: &[u8]) {
     }
 }
 
-// Refusals above 10 are those of the settlement.
+// Whether the first file is a ticket, whatever is said of the second.
 fn is_ticket(verdict: Verdict) -> bool {
     if let Verdict::Refused { why } = verdict {
-        10 < why
+        !words::is_of_ticket(why)
     } else {
         true
     }

@@ -22,7 +22,7 @@ fn settlement(ticket: &[u8], from: usize, end: usize) -> [u8; 15] {
 }
 
 // Twelve: each number one above its limit, alone and with all that follow it.
-pub(crate) fn limits(ticket: &[u8], tally: &mut [usize; 12]) {
+pub(crate) fn limits(ticket: &[u8], tally: &mut [usize; 13]) {
     for place in 3..9usize {
         judge(ticket, &settlement(ticket, place, place + 1), &mut *tally);
         judge(ticket, &settlement(ticket, place, 9), &mut *tally);

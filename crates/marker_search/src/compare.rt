@@ -1,13 +1,15 @@
 // The marker's answer beside that of the plain search, field by field, and the count of what came of it.
 use market::Deal;
 use plain::Answer;
+use plain::WITHOUT_HOURS;
 use plain::count;
+use plain::first_settlement;
 use plain::found;
 use plain::verdict;
 use verdicts::Verdict;
 
 // A tally's places: 0 for answers that differ, 1 to 8 for the verdicts that were compared, 9 for tickets, 10 for settlements
-// within the limits, 11 for those compared.
+// within the limits, 11 for those compared, 12 for tickets that are refused.
 pub(crate) const DIFFERENT: usize = 0;
 
 pub(crate) const TICKETS: usize = 9;
@@ -15,6 +17,8 @@ pub(crate) const TICKETS: usize = 9;
 pub(crate) const WITHIN: usize = 10;
 
 pub(crate) const COMPARED: usize = 11;
+
+pub(crate) const REFUSED: usize = 12;
 
 fn wide(x: u8) -> usize {
     x as usize
@@ -53,7 +57,7 @@ fn is_marked_so(ticket: &[u8], settlement: &[u8], wanted: Answer) -> bool {
 }
 
 // A settlement judged by the plain search and by the marker.
-pub(crate) fn judge(ticket: &[u8], all: &[u8; 15], tally: &mut [usize; 12]) {
+pub(crate) fn judge(ticket: &[u8], all: &[u8; 15], tally: &mut [usize; 13]) {
     let settlement = bytes::front(all, 9);
     let wanted = verdict(ticket, settlement);
     count(&mut *tally, wide(wanted.number));
@@ -64,7 +68,20 @@ pub(crate) fn judge(ticket: &[u8], all: &[u8; 15], tally: &mut [usize; 12]) {
 }
 
 // The same of a settlement within its ticket's limits.
-pub(crate) fn within(ticket: &[u8], all: &[u8; 15], tally: &mut [usize; 12]) {
+pub(crate) fn within(ticket: &[u8], all: &[u8; 15], tally: &mut [usize; 13]) {
     count(&mut *tally, WITHIN);
     judge(ticket, all, tally);
+}
+
+fn is_refused_so(ticket: &[u8], settlement: &[u8]) -> bool {
+    verdicts::values_of(marker::mark(ticket, settlement)).refusal == WITHOUT_HOURS
+}
+
+// A ticket that the plain check refuses: so must the marker, whose answer to any other ticket is compared with a verdict.
+pub(crate) fn refuse(ticket: &[u8], tally: &mut [usize; 13]) {
+    let settlement = first_settlement(ticket);
+    count(&mut *tally, REFUSED);
+    if !is_refused_so(ticket, bytes::front(&settlement, 9)) {
+        count(tally, DIFFERENT);
+    }
 }

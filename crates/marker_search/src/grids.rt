@@ -8,7 +8,7 @@ use plain::count;
 use plain::no_counts;
 
 // Every settlement within a ticket's limits. Each of six numbers takes at most three values, so there are at most 729.
-fn within_limits(ticket: &[u8], tally: &mut [usize; 12]) {
+fn within_limits(ticket: &[u8], tally: &mut [usize; 13]) {
     let mut settlement = plain::first_settlement(ticket);
     for turn in 0..1000usize {
         compare::within(ticket, &settlement, &mut *tally);
@@ -18,18 +18,23 @@ fn within_limits(ticket: &[u8], tally: &mut [usize; 12]) {
     }
 }
 
-fn of_ticket(file: &[u8; 27], tally: &mut [usize; 12]) {
+fn of_ticket(file: &[u8; 27], tally: &mut [usize; 13]) {
     let ticket = bytes::front(file, 16);
     count(&mut *tally, TICKETS);
+    if plain::is_refused(ticket) {
+        compare::refuse(ticket, tally);
+        return;
+    }
     within_limits(ticket, &mut *tally);
     beyond::limits(ticket, tally);
 }
 
-// Every ticket of a grid, fewer than a million: 27 times the hours, and for each of two pairs 9 tariff deals and 5 free ones.
-// They have 27 * 336 * 336 settlements within their limits, 21 * 16 for the deals of a pair.
-fn of_grid(growers: u8, pilots: u8) -> [usize; 12] {
+// Every ticket of a grid, fewer than a million: 64 times the hours, and for each of two pairs 9 tariff deals and 5 free ones. Of those
+// in which everybody has hours there are 27 * 45 * 45, with 27 * 336 * 336 settlements within their limits, 21 * 16 for the deals of a
+// pair; in the others a pair of somebody without hours has no deal.
+fn of_grid(growers: u8, pilots: u8) -> [usize; 13] {
     let most = Most {
-        hours: 2,
+        hours: 3,
         cap: 2,
         amount: 1,
     };

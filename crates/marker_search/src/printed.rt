@@ -1,6 +1,7 @@
 // What is searched, and what was found in a grid.
 use super::compare::COMPARED;
 use super::compare::DIFFERENT;
+use super::compare::REFUSED;
 use super::compare::TICKETS;
 use super::compare::WITHIN;
 use report::end_line;
@@ -9,35 +10,41 @@ use report::text;
 
 pub(crate) fn what_is_searched() {
     text(
-        b"tickets: all hours 0 to 2, all caps 0 to 2, all amounts 0 to 1, but 0 in a deal of cap 0\n",
+        b"tickets: all hours 0 to 3, all caps 0 to 2, all amounts 0 to 1, but 0 in a deal of cap 0\n",
     );
-    text(b"settlements of each: all with hours 0 to their cap and pay 0 to c;\n");
+    text(
+        b"settlements of each that is not refused: all with hours 0 to their cap and pay 0 to c;\n",
+    );
     text(
         b"  and each of the six numbers one above its limit, alone and with all that follow, the others at theirs\n",
     );
 }
 
-fn searched(counts: [usize; 12]) {
-    line(counts[TICKETS], b"tickets");
+fn searched(counts: [usize; 13]) {
+    line(counts[TICKETS], b"tickets, of which");
+    line(
+        counts[REFUSED],
+        b"refused with 18: a cap above 0 where the grower or the pilot has no hours",
+    );
     line(counts[WITHIN], b"settlements within their limits");
     line(counts[COMPARED], b"settlements compared, of which");
     line(counts[1], b"sound");
 }
 
-fn faults_of_terms(counts: [usize; 12]) {
+fn faults_of_terms(counts: [usize; 13]) {
     line(counts[2], b"tariff hours over their cap");
     line(counts[3], b"free hours over their cap");
     line(counts[4], b"pay wrong");
 }
 
-fn faults_of_hours(counts: [usize; 12]) {
+fn faults_of_hours(counts: [usize; 13]) {
     line(counts[5], b"grower over his hours");
     line(counts[6], b"pilot over his hours");
     line(counts[7], b"idle");
     line(counts[8], b"blocks");
 }
 
-pub(crate) fn tally(name: &[u8], counts: [usize; 12]) {
+pub(crate) fn tally(name: &[u8], counts: [usize; 13]) {
     text(name);
     end_line();
     searched(counts);

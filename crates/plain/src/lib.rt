@@ -1,7 +1,8 @@
-// Small tickets, their settlements, and the verdict on a settlement by the words of the paper, for the searches of the test
-// programs. A ticket here has at most two growers and two pilots, and all numbers are below 128, so that a number is a byte.
+// Small tickets, whether they are refused, their settlements, and the verdict on a settlement by the words of the paper, for the searches
+// of the test programs. A ticket here has at most two growers and two pilots, and all numbers are below 128, so that a number is a byte.
 mod faults;
 mod numbers;
+mod refusals;
 mod settlements;
 mod spares;
 mod tally;
@@ -12,6 +13,8 @@ pub use faults::found;
 pub use faults::is_sound;
 pub use faults::verdict;
 pub use numbers::deals;
+pub use refusals::WITHOUT_HOURS;
+pub use refusals::is_refused;
 pub use settlements::first_settlement;
 pub use settlements::limit;
 pub use settlements::next_settlement;

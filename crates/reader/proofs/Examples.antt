@@ -24,6 +24,22 @@ pub tickets : Tickets
 unfolding form walk readFrom
 tickets = (refl, refl, refl, refl, refl, refl, refl, refl, refl, refl, refl)
 
+-- Parties without hours: the grower, the pilot; a free cap; 7 before 18 at the same cap, and 18 before a later 8. Without caps they pass.
+abbrev pub WithoutHours : Type 0
+WithoutHours =
+    (unpacked (0x01 ∷ 0x01 ∷ 0x01 ∷ 0x00 ∷ 0x02 ∷ 0x01 ∷ []) ≡ Refusal 18)
+    × (unpacked (0x01 ∷ 0x01 ∷ 0x01 ∷ 0x02 ∷ 0x00 ∷ 0x01 ∷ []) ≡ Refusal 18)
+    × (unpacked (0x01 ∷ 0x01 ∷ 0x02 ∷ 0x02 ∷ 0x02 ∷ 0x00 ∷ 0x00 ∷ 0x00 ∷ 0x00 ∷ 0x01 ∷ 0x05 ∷ 0x00 ∷ 0x00 ∷ 0x00 ∷ 0x01 ∷ []) ≡ Refusal 18)
+    × (unpacked (0x01 ∷ 0x01 ∷ 0x01 ∷ 0x00 ∷ 0x02 ∷ 0x3D ∷ []) ≡ Refusal 7)
+    × (unpacked (0x01 ∷ 0x01 ∷ 0x01 ∷ 0x00 ∷ 0x02 ∷ 0x00 ∷ 0x01 ∷ []) ≡ Refusal 8)
+    × (unpacked (0x01 ∷ 0x01 ∷ 0x01 ∷ 0x00 ∷ 0x02 ∷ 0x00 ∷ 0x00 ∷ 0x00 ∷ 0x01 ∷ 0x00 ∷ []) ≡ Refusal 18)
+    × (unpacked (0x01 ∷ 0x01 ∷ 0x01 ∷ 0x00 ∷ 0x00 ∷ 0x00 ∷ 0x00 ∷ 0x00 ∷ 0x00 ∷ 0x00 ∷ [])
+    ≡ Numbers (1 ∷ 1 ∷ 1 ∷ 0 ∷ 0 ∷ 0 ∷ 0 ∷ 0 ∷ 0 ∷ 0 ∷ []))
+
+pub without-hours : WithoutHours
+unfolding form walk readFrom
+without-hours = (refl, refl, refl, refl, refl, refl, refl)
+
 -- Settlements of a ticket with one grower and one pilot. In a list a number of three groups is refused as its second byte would be.
 abbrev pub Settlements : Type 0
 Settlements =

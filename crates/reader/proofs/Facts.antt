@@ -1,6 +1,6 @@
 -- What the crates above cite: packing and reading undo one another, what an accepted ticket or settlement is, and what an operation leaves.
 use mathlib.Core.Path.{_≡_, refl, sym, ap, _∙_}
-use mathlib.Core.Logic.{⊎-elim}
+use mathlib.Core.Logic.{_⊎_, ⊎-elim}
 use mathlib.Core.List.{List, [], _∷_, _++_}
 use Prim.Native.Nat.{ℕ, zero, suc, _+_, _*_, _≤_, _<_}
 use native.Mathlib.Nat.{zero-add, mul-le-mul, mul-le-mul-right, suc-mul}
@@ -11,6 +11,7 @@ use lib.ListN.{length, getD, take, drop, List·getD-append}
 use lib.Seq.{sets, sets-eq, take-at}
 use Rattle.checks.specs.declared.refusals.Document.{Document}
 use Rattle.reader.specs.declared.Reply.{Reply}
+use Rattle.checks.proofs.HourLaws.{none-of-pair}
 use Rattle.checks.specs.Refusals.{noRoom}
 use Rattle.groups.specs.Groups.{Bytes, groups, bytes, pack}
 use Rattle.reader.specs.Walk.{Outcome, Refusal, Numbers, readHead, form}
@@ -19,7 +20,8 @@ use Rattle.reader.specs.Answer.{unpacked, packed, packedAs, settlementRe
 use Rattle.grid.proofs.Cases.{never, lt-or-le}
 use Rattle.reader.proofs.WalkLaws.{Accepted, form-accepts, accepts-form}
 use Rattle.reader.proofs.Undoing.{unpacked-packs, packed-unpacks, head-whole}
-use Rattle.reader.proofs.TicketLaws.{Shape, shape, ticket-hours, Deal, ticket-deal}
+use Rattle.reader.proofs.TicketLaws.{Shape, shape, ticket-hours}
+use Rattle.reader.proofs.PairLaws.{Deal, ticket-deal, ticket-none}
 use Rattle.reader.proofs.SettlementLaws.{SettlementShape, accepted-settlement, settlement-accepts, settlement-short}
 use Rattle.reader.proofs.LayoutLaws.{number-small}
 
@@ -105,6 +107,30 @@ pub unpacked-deal : (s xs : List ℕ) → unpacked s ≡ Numbers xs → (i j : �
     DealAt xs (3 + getD xs 1 0 + getD xs 2 0 + 5 * (i * getD xs 2 0 + j))
 unpacked-deal s xs e i j h l =
     accepted-deal xs (form-accepts ticket bytes s xs e .0) (i * getD xs 2 0 + j) (pair-below (getD xs 1 0) (getD xs 2 0) i j h l)
+
+-- A grower or a pilot without hours has no caps.
+accepted-none : (xs : List ℕ) → Accepted ticket xs → (i j : ℕ) → i < getD xs 1 0 → j < getD xs 2 0 →
+    (getD xs (3 + i) 0 ≡ 0) ⊎ (getD xs (3 + getD xs 1 0 + j) 0 ≡ 0) →
+    (p : ℕ) → p ≡ 3 + getD xs 1 0 + getD xs 2 0 + 5 * (i * getD xs 2 0 + j) → (getD xs p 0 ≡ 0) × (getD xs (p + 3) 0 ≡ 0)
+accepted-none [] a i j hi hj none p e = absurd (omega (arith, a .count))
+accepted-none (k ∷ []) a i j hi hj none p e = absurd (omega (arith, a .count))
+accepted-none (k ∷ n ∷ []) a i j hi hj none p e = absurd (omega (arith, a .count))
+accepted-none (k ∷ n ∷ m ∷ xs) a i j hi hj none p e =
+    let r = n + m + 5 * (i * m + j) in
+    let h = pair-below n m i j hi hj in
+    let sh = shape (k ∷ n ∷ m ∷ xs) a in
+    let e₀ : p ≡ suc (suc (suc r)) = omega arith in
+    let e₃ : suc (suc (suc r)) + 3 ≡ suc (suc (suc (r + 3))) = omega arith in
+    let eᵢ : 3 + i ≡ suc (suc (suc i)) = omega arith in
+    let eⱼ : 3 + n + j ≡ suc (suc (suc (n + j))) = omega arith in
+    rw (e₀, e₃)
+    (ticket-none k n m xs (a .good) (omega (arith, sh .growers .1, sh .pilots .1)) (i * m + j) r h refl (omega (arith, a .count))
+    (none-of-pair xs n m i j hj (rw (eᵢ, eⱼ) at none)))
+
+pub unpacked-none : (s xs : List ℕ) → unpacked s ≡ Numbers xs → (i j : ℕ) → i < getD xs 1 0 → j < getD xs 2 0 →
+    (getD xs (3 + i) 0 ≡ 0) ⊎ (getD xs (3 + getD xs 1 0 + j) 0 ≡ 0) →
+    (p : ℕ) → p ≡ 3 + getD xs 1 0 + getD xs 2 0 + 5 * (i * getD xs 2 0 + j) → (getD xs p 0 ≡ 0) × (getD xs (p + 3) 0 ≡ 0)
+unpacked-none s xs e = accepted-none xs (form-accepts ticket bytes s xs e .0)
 
 -- A settlement that was read: kind 2, the ticket's n and m, three numbers for each pair, each below 16,384.
 pub settlement-shape : (n m : ℕ) (s xs : List ℕ) → settlementRead n m s ≡ Numbers xs → SettlementShape xs n m

@@ -13,7 +13,7 @@ use Rattle.checks.specs.declared.ticket.Field.the-variants.{FreeGain}
 use Rattle.reader.specs.declared.layout.State.{State}
 use Rattle.groups.specs.Groups.{groups, pack}
 use Rattle.reader.specs.Walk.{final}
-use Rattle.reader.specs.State.{start, moved}
+use Rattle.reader.specs.State.{start}
 use Rattle.reader.specs.Ticket.{fieldOf, afterOf}
 use Rattle.reader.specs.Settlement.{placeAfter}
 use Rattle.reader.specs.Layout.{faultIn, afterIn, bodyIn, formOf}
@@ -31,25 +31,22 @@ number-small (Document.Settlement n m) s x e = settlement-passes n m (s .place) 
 abbrev Next : State → State → Type 0
 Next s t = Known t × (t .place ≡ s .place + 1)
 
-next-moved : (s : State) (n m cap : ℕ) → n < 128 ^ groups → m < 128 ^ groups → Next s (moved s n m cap)
-next-moved s n m cap h k = (record { growers = h; pilots = k }, refl)
-
 known-field : (f : Field) (s : State) (x : ℕ) → Known s → x < 128 ^ groups → Next s (afterOf f s x)
-known-field Kind s x k h = next-moved s _ _ _ (k .growers) (k .pilots)
-known-field Growers s x k h = next-moved s _ _ _ h (k .pilots)
-known-field Pilots s x k h = next-moved s _ _ _ (k .growers) h
-known-field Hours s x k h = next-moved s _ _ _ (k .growers) (k .pilots)
-known-field TariffCap s x k h = next-moved s _ _ _ (k .growers) (k .pilots)
-known-field TariffGain s x k h = next-moved s _ _ _ (k .growers) (k .pilots)
-known-field TariffPay s x k h = next-moved s _ _ _ (k .growers) (k .pilots)
-known-field FreeCap s x k h = next-moved s _ _ _ (k .growers) (k .pilots)
-known-field FreeGain s x k h = next-moved s _ _ _ (k .growers) (k .pilots)
+known-field Kind s x k h = (record { growers = k .growers; pilots = k .pilots }, refl)
+known-field Growers s x k h = (record { growers = h; pilots = k .pilots }, refl)
+known-field Pilots s x k h = (record { growers = k .growers; pilots = h }, refl)
+known-field Hours s x k h = (record { growers = k .growers; pilots = k .pilots }, refl)
+known-field TariffCap s x k h = (record { growers = k .growers; pilots = k .pilots }, refl)
+known-field TariffGain s x k h = (record { growers = k .growers; pilots = k .pilots }, refl)
+known-field TariffPay s x k h = (record { growers = k .growers; pilots = k .pilots }, refl)
+known-field FreeCap s x k h = (record { growers = k .growers; pilots = k .pilots }, refl)
+known-field FreeGain s x k h = (record { growers = k .growers; pilots = k .pilots }, refl)
 
 known-place : (p : ℕ) (s : State) (x : ℕ) → Known s → x < 128 ^ groups → Next s (placeAfter p s x)
-known-place zero s x k h = next-moved s _ _ _ (k .growers) (k .pilots)
-known-place (suc zero) s x k h = next-moved s _ _ _ h (k .pilots)
-known-place (suc (suc zero)) s x k h = next-moved s _ _ _ (k .growers) h
-known-place (suc (suc (suc p))) s x k h = next-moved s _ _ _ (k .growers) (k .pilots)
+known-place zero s x k h = (record { growers = k .growers; pilots = k .pilots }, refl)
+known-place (suc zero) s x k h = (record { growers = h; pilots = k .pilots }, refl)
+known-place (suc (suc zero)) s x k h = (record { growers = k .growers; pilots = h }, refl)
+known-place (suc (suc (suc p))) s x k h = (record { growers = k .growers; pilots = k .pilots }, refl)
 
 pub known-after : (p : Document) (s : State) (x : ℕ) → Known s → faultIn p s x ≡ 0 →
     Known (afterIn p s x) × ((afterIn p s x) .place ≡ s .place + 1)

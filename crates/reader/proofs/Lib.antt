@@ -4,6 +4,7 @@ pub mod WalkLaws
 pub mod Undoing
 pub mod Writing
 pub mod TicketLaws
+pub mod PairLaws
 pub mod SettlementLaws
 pub mod LayoutLaws
 pub mod Running

@@ -9,14 +9,14 @@ use lib.ListN.{length, getD}
 use Rattle.reader.specs.declared.layout.State.{State}
 use Rattle.checks.specs.Refusals.{settlementRefusals}
 use Rattle.groups.specs.Groups.{pack}
-use Rattle.reader.specs.State.{start, moved}
+use Rattle.reader.specs.State.{start, passed}
 use Rattle.reader.specs.Settlement.{placeAfter, settlementAfter}
 use Rattle.reader.specs.Layout.{settlement}
 use Rattle.groups.proofs.GroupLaws.{encode-short, pack-length}
 use Rattle.reader.proofs.WalkLaws.{Good, Accepted}
 use Rattle.checks.proofs.FaultLaws.{must-holds, settlement-passes, settlement-clear, pair-fault}
 
-pub pair-after : (p : ℕ) (s : State) (x : ℕ) → 3 ≤ p → placeAfter p s x ≡ moved s (s .growers) (s .pilots) (s .cap)
+pub pair-after : (p : ℕ) (s : State) (x : ℕ) → 3 ≤ p → placeAfter p s x ≡ passed s
 pair-after zero s x h = absurd (omega arith)
 pair-after (suc zero) s x h = absurd (omega arith)
 pair-after (suc (suc zero)) s x h = absurd (omega arith)

@@ -1,40 +1,32 @@
 -- What is known of an accepted ticket: how many numbers it has, how large they are, and how many bytes they take.
 use mathlib.Core.Path.{_≡_, refl, ap, _∙_}
-use mathlib.Core.Logic.{⊎-elim, _⊎_, inl, inr}
 use mathlib.Core.Bool.{Bool, true, false, cond}
 use mathlib.Core.List.{List, [], _∷_}
 use Prim.Native.Nat.{ℕ, zero, suc, _+_, _-_, _*_, _%_, _^_, _≤_, _<_}
 use native.Mathlib.Nat.{mul-le-mul, pow-le-pow-right, zero-add, add-zero, suc-add}
 use native.Mathlib.Omega.{arith}
-use borrow.Author.Tests.{lt-ltb, le-ltb, leb-true, eqb-true}
-use lib.Dec.{leb, ltb, eqb, lit<, lit≤}
-use lib.ListN.{length, getD, take, drop}
-use lib.Seq.{drop-cons, length-take-le}
+use borrow.Author.Tests.{lt-ltb, le-ltb, eqb-true}
+use lib.Dec.{ltb, eqb, lit<, lit≤}
+use lib.ListN.{length, getD, take}
+use lib.Seq.{length-take-le}
 use Rattle.checks.specs.declared.ticket.Field.{Field}
 use Rattle.checks.specs.declared.ticket.Field.the-variants.{Kind, Growers, Pilots, Hours, TariffCap, TariffGain, TariffPay, FreeCap}
 use Rattle.checks.specs.declared.ticket.Field.the-variants.{FreeGain}
 use Rattle.reader.specs.declared.layout.State.{State}
-use Rattle.checks.specs.Refusals.{ticketRefusals, aboveLimit, must}
+use Rattle.checks.specs.Refusals.{ticketRefusals}
 use Rattle.checks.specs.TicketFaults.{amountFault, faultOf}
-use Rattle.checks.proofs.FaultLaws.{must-holds, party-range, amount-range, amount-none, mostOf, field-range}
+use Rattle.checks.proofs.FaultLaws.{must-holds, party-range, mostOf, field-range}
 use Rattle.groups.specs.Groups.{encode, groups, pack}
 use Rattle.reader.specs.Walk.{final}
-use Rattle.reader.specs.State.{start, moved}
-use Rattle.reader.specs.Ticket.{dealField, placeField, fieldOf, afterOf, ticketFault}
+use Rattle.reader.specs.State.{start, passed}
+use Rattle.reader.specs.Ticket.{dealField, placeField, fieldOf, afterOf, noneFor, ticketFault, ticketAfter}
 use Rattle.reader.specs.Layout.{ticket}
 use Rattle.groups.proofs.GroupLaws.{encode-short, pack-length}
-use Rattle.reader.proofs.WalkLaws.{Good, Accepted, good-at, good-drop}
+use Rattle.reader.proofs.WalkLaws.{Good, Accepted, good-at}
 
 -- The field of a place after the first three.
 three : (p : ℕ) → suc (suc (suc p)) - 3 ≡ p
 three p = omega arith
-
-pub gain-last : (k : ℕ) → 4 ≤ k → FreeGain ≡ dealField k
-gain-last zero h = absurd (omega arith)
-gain-last (suc zero) h = absurd (omega arith)
-gain-last (suc (suc zero)) h = absurd (omega arith)
-gain-last (suc (suc (suc zero))) h = absurd (omega arith)
-gain-last (suc (suc (suc (suc k)))) h = refl
 
 pub place-after : (n m p : ℕ) → 3 ≤ p → placeField n m p ≡ cond (ltb (p - 3) (n + m)) Hours (dealField ((p - 3 - (n + m)) % 5))
 place-after n m zero h = absurd (omega arith)
@@ -49,18 +41,27 @@ pair-place s h =
     rw (place-after (s .growers) (s .pilots) (s .place) (omega arith), le-ltb (s .place - 3) (s .growers + s .pilots) (omega arith))
     (ap (λ (d : ℕ). dealField (d % 5)) e)
 
--- A pair has its caps in the first field and in the fourth, and amounts in the others.
-pub cap-fields : (k : ℕ) (s : State) (x : ℕ) → (k ≡ 0) ⊎ (k ≡ 3) →
-    (must (leb x 60) aboveLimit ≡ faultOf (dealField k) (s .cap) x) × (moved s (s .growers) (s .pilots) x ≡ afterOf (dealField k) s x)
-cap-fields k s x h = ⊎-elim (λ e. rw e (refl, refl)) (λ e. rw e (refl, refl)) h
+-- A number checked in the field of its place.
+pub checked-in : (s : State) (x why : ℕ) (after : State) (f : Field) → fieldOf s ≡ f → why ≡ faultOf f (s .cap) (noneFor f s) x →
+    after ≡ afterOf f s x → (why ≡ ticketFault s x) × (after ≡ ticketAfter s x)
+checked-in s x why after f e w a = rw e (w, a)
 
-pub amount-fields : (k : ℕ) (s : State) (x : ℕ) → ((k ≡ 0) ⊎ (k ≡ 3) → ⊥) →
-    (amountFault (s .cap) x ≡ faultOf (dealField k) (s .cap) x) × (moved s (s .growers) (s .pilots) (s .cap) ≡ afterOf (dealField k) s x)
-amount-fields zero s x h = absurd (h (inl refl))
-amount-fields (suc zero) s x h = (refl, refl)
-amount-fields (suc (suc zero)) s x h = (refl, refl)
-amount-fields (suc (suc (suc zero))) s x h = absurd (h (inr refl))
-amount-fields (suc (suc (suc (suc k)))) s x h = (refl, refl)
+-- The field of each place before the pairs.
+pub head-place : (s : State) (p : ℕ) → s .place ≡ p → fieldOf s ≡ placeField (s .growers) (s .pilots) p
+head-place s p e = ap (placeField (s .growers) (s .pilots)) e
+
+pub hours-place : (s : State) → 3 ≤ s .place → s .place < 3 + s .growers + s .pilots → fieldOf s ≡ Hours
+hours-place s h l =
+    place-after (s .growers) (s .pilots) (s .place) h ∙ rw (lt-ltb (s .place - 3) (s .growers + s .pilots) (omega arith))
+
+-- A pair has its caps in the first field and in the fourth, and amounts in the others.
+pub amount-fields : (k : ℕ) (s : State) (none : Bool) (x : ℕ) → (k ≡ 0 → ⊥) → (k ≡ 3 → ⊥) →
+    (amountFault (s .cap) x ≡ faultOf (dealField k) (s .cap) none x) × (passed s ≡ afterOf (dealField k) s x)
+amount-fields zero s none x h l = absurd (h refl)
+amount-fields (suc zero) s none x h l = (refl, refl)
+amount-fields (suc (suc zero)) s none x h l = (refl, refl)
+amount-fields (suc (suc (suc zero))) s none x h l = absurd (l refl)
+amount-fields (suc (suc (suc (suc k)))) s none x h l = (refl, refl)
 
 -- The groups that the largest number of a field takes.
 abbrev pub groupsOf : Field → ℕ
@@ -81,13 +82,13 @@ field-fits FreeGain = (lit< tt, lit≤ tt, lit< tt)
 pub ticket-small : (s : State) (x : ℕ) → ticketFault s x ≡ 0 → x < 128 ^ groups
 ticket-small s x e =
     let f = field-fits (fieldOf s) in
-    omega (arith, field-range (fieldOf s) (s .cap) x e, f .0, pow-le-pow-right {n = 128} (omega arith) (f .1))
+    omega (arith, field-range (fieldOf s) (s .cap) (noneFor (fieldOf s) s) x e, f .0, pow-le-pow-right {n = 128} (omega arith) (f .1))
 
 -- The bytes of one number.
 number-size : (s : State) (x : ℕ) → ticket .fault s x ≡ 0 → length (encode x) ≤ groupsOf (fieldOf s)
 number-size s x e =
     let f = field-fits (fieldOf s) in
-    encode-short (groupsOf (fieldOf s)) x (f .2) (omega (arith, field-range (fieldOf s) (s .cap) x e, f .0))
+    encode-short (groupsOf (fieldOf s)) x (f .2) (omega (arith, field-range (fieldOf s) (s .cap) (noneFor (fieldOf s) s) x e, f .0))
 
 -- The most bytes of k numbers from a place on: a run of hours takes one each, and the five numbers of a pair take eight.
 abbrev pub room : ℕ → ℕ → ℕ → ℕ → ℕ
@@ -105,7 +106,7 @@ room-hours n m p (suc j) h l =
     rw (place-after n m p h, lt-ltb (p - 3) (n + m) (omega arith)) (omega (arith, room-hours n m (p + 1) j (omega arith) (omega arith)))
 
 -- the number i of a pair whose first number stands at 3 + n + m + 5 * q
-deal-place : (n m q i p : ℕ) → i < 5 → p ≡ 3 + n + m + 5 * q + i → placeField n m p ≡ dealField i
+pub deal-place : (n m q i p : ℕ) → i < 5 → p ≡ 3 + n + m + 5 * q + i → placeField n m p ≡ dealField i
 deal-place n m q i p h e =
     let r : (p - 3 - (n + m)) % 5 ≡ i = omega arith in rw (place-after n m p (omega arith), le-ltb (p - 3) (n + m) (omega arith), r)
 
@@ -145,7 +146,7 @@ deal-steady (suc (suc zero)) s x = record { growers = refl; pilots = refl; place
 deal-steady (suc (suc (suc zero))) s x = record { growers = refl; pilots = refl; place = refl }
 deal-steady (suc (suc (suc (suc k)))) s x = record { growers = refl; pilots = refl; place = refl }
 
-after-steady : (s : State) (x : ℕ) → 3 ≤ s .place → Steady s (ticket .after s x)
+pub after-steady : (s : State) (x : ℕ) → 3 ≤ s .place → Steady s (ticket .after s x)
 after-steady s x h =
     rw (place-after (s .growers) (s .pilots) (s .place) h)
     (go (ltb (s .place - 3) (s .growers + s .pilots)) ((s .place - 3 - (s .growers + s .pilots)) % 5))
@@ -219,7 +220,7 @@ stands-on s (x ∷ xs) n m p h t =
     (stands-on (ticket .after s x) xs n m (suc p) (omega arith)
     (record { growers = k .growers ∙ t .growers; pilots = k .pilots ∙ t .pilots; place = omega (arith, k .place, t .place) }))
 
-stands : (k n m : ℕ) (xs : List ℕ) (q : ℕ) → q ≤ length xs →
+pub stands : (k n m : ℕ) (xs : List ℕ) (q : ℕ) → q ≤ length xs →
     Stands (final ticket start (take (suc (suc (suc q))) (k ∷ n ∷ m ∷ xs))) n m (3 + q)
 stands k n m xs q h =
     let e : 3 + length (take q xs) ≡ 3 + q = omega (arith, length-take-le q xs h) in
@@ -235,68 +236,4 @@ ticket-hours k n m xs g q h l =
     let e = good-at ticket start (k ∷ n ∷ m ∷ xs) (suc (suc (suc q))) (omega arith) g in
     let f : fieldOf s ≡ Hours =
     rw (t .growers, t .pilots, t .place) (place-after n m (3 + q) (omega arith) ∙ rw (lt-ltb (3 + q - 3) (n + m) (omega arith))) in
-    rw f at (field-range (fieldOf s) (s .cap) (getD xs q 0) e)
-
--- The five numbers of a pair: caps at most 60, amounts at most 500, and none where the cap is 0.
-pub record Deal (tariffCap tariffGain tariffPay freeCap freeGain : ℕ) : Type 0 where
-  pub tariffCapped : tariffCap ≤ 60
-  pub gainCapped : tariffGain ≤ 500
-  pub payCapped : tariffPay ≤ 500
-  pub freeCapped : freeCap ≤ 60
-  pub freeGainCapped : freeGain ≤ 500
-  pub noTariff : tariffCap ≡ 0 → (tariffGain ≡ 0) × (tariffPay ≡ 0)
-  pub noFree : freeCap ≡ 0 → freeGain ≡ 0
-
-deal-good : (s : State) (q a b c d e : ℕ) (xs : List ℕ) → s .place ≡ 3 + s .growers + s .pilots + 5 * q →
-    Good ticket s (a ∷ b ∷ c ∷ d ∷ e ∷ xs) → Deal a b c d e
-deal-good s q a b c d e xs h g =
-    let p = s .place in
-    let n = s .growers in
-    let m = s .pilots in
-    let r =
-    rw (
-      deal-place n m q 0 p (lit< tt) (omega arith),
-      deal-place n m q 1 (p + 1) (lit< tt) (omega arith),
-      deal-place n m q 2 (p + 1 + 1) (lit< tt) (omega arith),
-      deal-place n m q 3 (p + 1 + 1 + 1) (lit< tt) (omega arith),
-      deal-place n m q 4 (p + 1 + 1 + 1 + 1) (lit< tt) (omega arith),
-    ) at g in
-    record {
-      tariffCapped = leb-true a 60 (must-holds (leb a 60) aboveLimit (lit< tt) (r .0));
-      gainCapped = amount-range a b (r .1 .0);
-      payCapped = amount-range a c (r .1 .1 .0);
-      freeCapped = leb-true d 60 (must-holds (leb d 60) aboveLimit (lit< tt) (r .1 .1 .1 .0));
-      freeGainCapped = amount-range d e (r .1 .1 .1 .1 .0);
-      noTariff = λ z. (amount-none a b (r .1 .0) z, amount-none a c (r .1 .1 .0) z);
-      noFree = λ z. amount-none d e (r .1 .1 .1 .1 .0) z;
-    }
-
-five : (xs : List ℕ) (p : ℕ) → p + 4 < length xs →
-    drop p xs ≡ getD xs p 0 ∷ getD xs (p + 1) 0 ∷ getD xs (p + 2) 0 ∷ getD xs (p + 3) 0 ∷ getD xs (p + 4) 0 ∷ drop (p + 5) xs
-five xs p h =
-    let e₁ : p + 1 ≡ suc p = omega arith in
-    let e₂ : p + 2 ≡ suc (suc p) = omega arith in
-    let e₃ : p + 3 ≡ suc (suc (suc p)) = omega arith in
-    let e₄ : p + 4 ≡ suc (suc (suc (suc p))) = omega arith in
-    let e₅ : p + 5 ≡ suc (suc (suc (suc (suc p)))) = omega arith in
-    rw (
-      e₁,
-      e₂,
-      e₃,
-      e₄,
-      e₅,
-      drop-cons xs p 0 (omega arith),
-      drop-cons xs (suc p) 0 (omega arith),
-      drop-cons xs (suc (suc p)) 0 (omega arith),
-      drop-cons xs (suc (suc (suc p))) 0 (omega arith),
-      drop-cons xs (suc (suc (suc (suc p)))) 0 (omega arith),
-    )
-
--- The pair q of an accepted ticket.
-pub ticket-deal : (k n m : ℕ) (xs : List ℕ) → Good ticket start (k ∷ n ∷ m ∷ xs) → (q r : ℕ) → r ≡ n + m + 5 * q → r + 4 < length xs →
-    Deal (getD xs r 0) (getD xs (r + 1) 0) (getD xs (r + 2) 0) (getD xs (r + 3) 0) (getD xs (r + 4) 0)
-ticket-deal k n m xs g q r e l =
-    let s = final ticket start (take (suc (suc (suc r))) (k ∷ n ∷ m ∷ xs)) in
-    let t = stands k n m xs r (omega arith) in
-    let w = good-drop ticket start (suc (suc (suc r))) (k ∷ n ∷ m ∷ xs) g in
-    deal-good s q _ _ _ _ _ (drop (r + 5) xs) (rw (t .growers, t .pilots, t .place) (omega arith)) (rw (five xs r l) at w)
+    rw f at (field-range (fieldOf s) (s .cap) (noneFor (fieldOf s) s) (getD xs q 0) e)

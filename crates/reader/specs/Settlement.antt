@@ -1,14 +1,14 @@
 -- The settlement of a ticket with n growers and m pilots: kind, n, m, and then for each pair tariff hours, free-deal hours and pay.
 use Prim.Native.Nat.{ℕ, zero, suc, _*_}
 use Rattle.reader.specs.declared.layout.State.{State}
-use Rattle.reader.specs.State.{moved}
+use Rattle.reader.specs.State.{passed, withParties}
 
 -- The state after x at a place.
 abbrev pub placeAfter : ℕ → State → ℕ → State
-placeAfter zero s x = moved s (s .growers) (s .pilots) (s .cap)
-placeAfter (suc zero) s x = moved s x (s .pilots) (s .cap)
-placeAfter (suc (suc zero)) s x = moved s (s .growers) x (s .cap)
-placeAfter (suc (suc (suc p))) s x = moved s (s .growers) (s .pilots) (s .cap)
+placeAfter zero s x = passed s
+placeAfter (suc zero) s x = withParties s x (s .pilots)
+placeAfter (suc (suc zero)) s x = withParties s (s .growers) x
+placeAfter (suc (suc (suc p))) s x = passed s
 
 abbrev pub settlementAfter : State → ℕ → State
 settlementAfter s x = placeAfter (s .place) s x

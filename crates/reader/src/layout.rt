@@ -1,7 +1,7 @@
 // The two documents behind one state: what is wrong with a number at its place, the state after it, and how many numbers follow.
 ghost use mathlib.Core.Path.{_≡_};
 ghost use Prim.Native.Nat.{_+_, _*_, _<_, _≤_};
-ghost use Rattle.reader.specs.State.{start, moved};
+ghost use Rattle.reader.specs.State.{start, passed, withParties, withHours, withCap};
 ghost use Rattle.reader.specs.Layout.{faultIn, afterIn, bodyIn};
 ghost use Rattle.reader.specs.Steps.{Known, mostPlaces, mostPairs};
 use crate::settlement::settlement_check;
@@ -16,7 +16,9 @@ pub(crate) struct State {
     pub(crate) place: usize,
     pub(crate) growers: usize,
     pub(crate) pilots: usize,
-    pub(crate) cap: usize,
+    pub(crate) without: u32, // who has no hours, of the parties whose hours were read
+    pub(crate) none: bool, // whether somebody of the pair at hand has none
+    pub(crate) cap: usize, // the last cap
 }
 
 // A number looked at in a state: what is wrong with it, as a refusal number or 0 if nothing is, and the state after it.
@@ -33,19 +35,68 @@ pub(crate) fn start() -> State
         place: 0,
         growers: 0,
         pilots: 0,
+        without: 0,
+        none: false,
         cap: 0,
     }
 }
 
-// The next place, with what is known there.
-pub(crate) fn moved(s: State, growers: usize, pilots: usize, cap: usize) -> State
+// The next place, with all that is known.
+pub(crate) fn passed(s: State) -> State
     requires { ⌜ s .place < mostPlaces ⌝ }
-    ensures { λ r. ⌜ r ≡ moved s growers pilots cap ⌝ }
+    ensures { λ r. ⌜ r ≡ passed s ⌝ }
+{
+    State {
+        place: s.place + 1,
+        growers: s.growers,
+        pilots: s.pilots,
+        without: s.without,
+        none: s.none,
+        cap: s.cap,
+    }
+}
+
+// The same, with growers and pilots.
+pub(crate) fn with_parties(s: State, growers: usize, pilots: usize) -> State
+    requires { ⌜ s .place < mostPlaces ⌝ }
+    ensures { λ r. ⌜ r ≡ withParties s growers pilots ⌝ }
 {
     State {
         place: s.place + 1,
         growers,
         pilots,
+        without: s.without,
+        none: s.none,
+        cap: s.cap,
+    }
+}
+
+// The same, with who has no hours.
+pub(crate) fn with_hours(s: State, without: u32) -> State
+    requires { ⌜ s .place < mostPlaces ⌝ }
+    ensures { λ r. ⌜ r ≡ withHours s without ⌝ }
+{
+    State {
+        place: s.place + 1,
+        growers: s.growers,
+        pilots: s.pilots,
+        without,
+        none: s.none,
+        cap: s.cap,
+    }
+}
+
+// The same, with a cap of a pair, and whether somebody of it has no hours.
+pub(crate) fn with_cap(s: State, none: bool, cap: usize) -> State
+    requires { ⌜ s .place < mostPlaces ⌝ }
+    ensures { λ r. ⌜ r ≡ withCap s none cap ⌝ }
+{
+    State {
+        place: s.place + 1,
+        growers: s.growers,
+        pilots: s.pilots,
+        without: s.without,
+        none,
         cap,
     }
 }

@@ -20,7 +20,7 @@ use groups::Got;
 use groups::number;
 
 // What a part of a document comes to: the refusal, or the place and the state after it.
-// A struct and no enum, since a state may come to hold an array.
+// A struct and no enum, so that a run goes on from one turn of the walk to the next without being taken apart.
 pub(crate) struct Run {
     pub(crate) refused: bool,
     pub(crate) why: u8,

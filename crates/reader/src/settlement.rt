@@ -6,7 +6,8 @@ ghost use Rattle.reader.specs.Settlement.{settlementAfter};
 ghost use Rattle.reader.specs.Steps.{mostPlaces};
 use crate::layout::Checked;
 use crate::layout::State;
-use crate::layout::moved;
+use crate::layout::passed;
+use crate::layout::with_parties;
 use checks::settlement_fault;
 
 // The state after a number: its growers and pilots are kept.
@@ -16,10 +17,10 @@ fn settlement_after(s: State, x: usize) -> State
 {
     let place = s.place;
     match place {
-        0 => moved(s, s.growers, s.pilots, s.cap),
-        1 => moved(s, x, s.pilots, s.cap),
-        2 => moved(s, s.growers, x, s.cap),
-        _ => moved(s, s.growers, s.pilots, s.cap),
+        0 => passed(s),
+        1 => with_parties(s, x, s.pilots),
+        2 => with_parties(s, s.growers, x),
+        _ => passed(s),
     }
 }
 

@@ -1,93 +1,106 @@
-// The places of a ticket: which field stands at each, and what it leaves in the state.
+// The places of a ticket: what is wrong with a number at each, and what it leaves in the state.
 ghost use mathlib.Core.Path.{_≡_};
-ghost use Prim.Native.Nat.{_<_};
+ghost use Prim.Native.Nat.{_+_, _<_, _≤_};
 ghost use Rattle.checks.specs.TicketFaults.{faultOf};
-ghost use Rattle.reader.specs.Ticket.{dealField, fieldOf, afterOf, ticketFault, ticketAfter};
+ghost use Rattle.reader.specs.Ticket.{dealField, afterOf, noneAt, noneFor, ticketFault, ticketAfter};
 ghost use Rattle.reader.specs.Steps.{Known, mostPlaces};
 use crate::layout::Checked;
 use crate::layout::HEAD;
 use crate::layout::State;
-use crate::layout::moved;
+use crate::layout::passed;
+use crate::layout::with_cap;
+use crate::layout::with_hours;
+use crate::layout::with_parties;
 use checks::Field;
 use checks::fault_of;
+use checks::noted;
+use checks::pair_has_none;
 
-// The five numbers of a pair.
-fn deal_field(k: usize) -> Field
-    ensures { λ r. ⌜ r ≡ dealField k ⌝ }
-{
-    match k {
-        0 => Field::TariffCap,
-        1 => Field::TariffGain,
-        2 => Field::TariffPay,
-        3 => Field::FreeCap,
-        _ => Field::FreeGain,
-    }
-}
-
-// The field at a state's place: kind, growers, pilots, everybody's hours, and then five fields for each pair.
-fn field_of(s: State) -> Field
-    requires { ⌜ Known s ⌝ }
-    ensures { λ r. ⌜ r ≡ fieldOf s ⌝ }
+// A number before the pairs: kind, growers, pilots, and everybody's hours.
+fn head_check(s: State, x: usize) -> Checked
+    requires { ⌜ (s .place < 3 + s .growers + s .pilots) × (s .place < mostPlaces) ⌝ }
+    ensures { λ r. ⌜ (r .why ≡ ticketFault s x) × (r .after ≡ ticketAfter s x) ⌝ }
 {
     let place = s.place;
-    let parties = s.growers + s.pilots;
     match place {
-        0 => Field::Kind,
-        1 => Field::Growers,
-        2 => Field::Pilots,
+        0 => {
+            let after = passed(s);
+            Checked {
+                why: fault_of(Field::Kind, s.cap, s.none, x),
+                after,
+            }
+        }
+        1 => {
+            let after = with_parties(s, x, s.pilots);
+            Checked {
+                why: fault_of(Field::Growers, s.cap, s.none, x),
+                after,
+            }
+        }
+        2 => {
+            let after = with_parties(s, s.growers, x);
+            Checked {
+                why: fault_of(Field::Pilots, s.cap, s.none, x),
+                after,
+            }
+        }
         _ => {
-            if place - HEAD < parties {
-                Field::Hours
-            } else {
-                deal_field((place - HEAD - parties) % 5)
+            let after = with_hours(s, noted(s.without, x));
+            Checked {
+                why: fault_of(Field::Hours, s.cap, s.none, x),
+                after,
             }
         }
     }
 }
 
-// The state after a number in a field: growers, pilots and the last cap are kept for later checks.
-fn after_of(field: Field, s: State, x: usize) -> State
-    requires { ⌜ s .place < mostPlaces ⌝ }
-    ensures { λ r. ⌜ r ≡ afterOf field s x ⌝ }
+// Whether the grower or the pilot of the pair at a state's place has no hours. Where everybody has some, no pair is looked for.
+fn none_at(s: State) -> bool
+    requires { ⌜ Known s ⌝ }
+    requires { ⌜ 3 + s .growers + s .pilots ≤ s .place ⌝ }
+    ensures { λ r. ⌜ r ≡ noneAt s ⌝ }
 {
-    match field {
-        Field::Kind => moved(s, s.growers, s.pilots, s.cap),
-        Field::Growers => moved(s, x, s.pilots, s.cap),
-        Field::Pilots => moved(s, s.growers, x, s.cap),
-        Field::Hours => moved(s, s.growers, s.pilots, s.cap),
-        Field::TariffCap => moved(s, s.growers, s.pilots, x),
-        Field::TariffGain => moved(s, s.growers, s.pilots, s.cap),
-        Field::TariffPay => moved(s, s.growers, s.pilots, s.cap),
-        Field::FreeCap => moved(s, s.growers, s.pilots, x),
-        Field::FreeGain => moved(s, s.growers, s.pilots, s.cap),
+    if s.without == 0 {
+        return false;
     }
+    let pair = (s.place - HEAD - (s.growers + s.pilots)) / 5;
+    pair_has_none(s.without, s.growers as u16, s.pilots as u16, pair)
 }
 
-// A number of a pair, whose five fields are of two sorts: caps and amounts.
+// A number of a pair: its tariff cap, its free cap, or an amount.
 fn deal_check(k: usize, s: State, x: usize) -> Checked
-    requires { ⌜ s .place < mostPlaces ⌝ }
-    ensures { λ r. ⌜ (r .why ≡ faultOf (dealField k) (s .cap) x) × (r .after ≡ afterOf (dealField k) s x) ⌝ }
+    requires { ⌜ Known s ⌝ }
+    requires { ⌜ (3 + s .growers + s .pilots ≤ s .place) × (s .place < mostPlaces) ⌝ }
+    ensures { λ r. ⌜ r .why ≡ faultOf (dealField k) (s .cap) (noneFor (dealField k) s) x ⌝ }
+    ensures { λ r. ⌜ r .after ≡ afterOf (dealField k) s x ⌝ }
 {
     match k {
-        0 | 3 => {
-            let after = moved(s, s.growers, s.pilots, x);
+        0 => {
+            let none = none_at(s);
+            let after = with_cap(s, none, x);
             Checked {
-                why: fault_of(Field::TariffCap, s.cap, x),
+                why: fault_of(Field::TariffCap, s.cap, none, x),
+                after,
+            }
+        }
+        3 => {
+            let after = with_cap(s, s.none, x);
+            Checked {
+                why: fault_of(Field::FreeCap, s.cap, s.none, x),
                 after,
             }
         }
         _ => {
-            let after = moved(s, s.growers, s.pilots, s.cap);
+            let after = passed(s);
             Checked {
-                why: fault_of(Field::TariffGain, s.cap, x),
+                why: fault_of(Field::TariffGain, s.cap, s.none, x),
                 after,
             }
         }
     }
 }
 
-// What is wrong with a number at a state's place, and the state after it.
-// Nearly all numbers stand in pairs. They are looked at first, since a test is faster than a jump to one of nine fields.
+// What is wrong with a number at a state's place, and the state after it. Nearly all numbers stand in pairs, so these are looked at first.
 pub(crate) fn ticket_check(s: State, x: usize) -> Checked
     requires { ⌜ Known s ⌝ }
     requires { ⌜ s .place < mostPlaces ⌝ }
@@ -96,12 +109,8 @@ pub(crate) fn ticket_check(s: State, x: usize) -> Checked
     let place = s.place;
     let pairs = HEAD + s.growers + s.pilots;
     if pairs <= place {
-        return deal_check((place - pairs) % 5, s, x);
-    }
-    let field = field_of(s);
-    let after = after_of(field, s, x);
-    Checked {
-        why: fault_of(field, s.cap, x),
-        after,
+        deal_check((place - pairs) % 5, s, x)
+    } else {
+        head_check(s, x)
     }
 }

@@ -8,17 +8,17 @@ use plain::count;
 use plain::first_ticket;
 use plain::no_counts;
 
-fn of_ticket(file: &[u8; 27], with_every: bool, tally: &mut [usize; 12]) {
+fn of_ticket(file: &[u8; 27], with_every: bool, tally: &mut [usize; 13]) {
     let ticket = bytes::front(file, plain::ticket_length(file));
     let mut lent = settled::no_bytes();
     count(&mut *tally, settled::of_ticket(ticket, &mut lent));
-    if with_every {
+    if with_every && !plain::is_refused(ticket) {
         every::of_ticket(ticket, &lent, tally);
     }
 }
 
 // Every ticket of a grid, fewer than ten million.
-fn of_grid(first: [u8; 27], from: usize, most: Most, with_every: bool) -> [usize; 12] {
+fn of_grid(first: [u8; 27], from: usize, most: Most, with_every: bool) -> [usize; 13] {
     let mut tally = no_counts();
     let mut ticket = first;
     for turn in 0..10000000usize {
@@ -39,7 +39,7 @@ fn most(hours: u8, cap: u8, amount: u8) -> Most {
     }
 }
 
-// All hours from 0 to the most, and every settlement of each ticket.
+// All hours from 0 to the most, and every settlement of each ticket that is not refused.
 fn with_settlements(growers: u8, pilots: u8, most: Most) {
     printed::grid(growers, pilots, 0, most);
     let tally = of_grid(first_ticket(growers, pilots, 0), 3, most, true);
@@ -62,17 +62,17 @@ fn most_hours(growers: u8, pilots: u8, most: Most) {
 }
 
 fn small() {
-    with_settlements(1, 1, most(2, 2, 3));
-    with_settlements(1, 2, most(1, 1, 2));
-    with_settlements(2, 1, most(1, 1, 2));
+    with_settlements(1, 1, most(3, 2, 3));
+    with_settlements(1, 2, most(2, 1, 2));
+    with_settlements(2, 1, most(2, 1, 2));
 }
 
 fn larger() {
-    all_hours(1, 2, most(2, 2, 1));
-    all_hours(2, 1, most(2, 2, 1));
+    all_hours(1, 2, most(3, 2, 1));
+    all_hours(2, 1, most(3, 2, 1));
     most_hours(1, 2, most(2, 2, 3));
     most_hours(2, 1, most(2, 2, 3));
-    all_hours(2, 2, most(1, 1, 1));
+    all_hours(2, 2, most(2, 1, 1));
     most_hours(2, 2, most(1, 1, 2));
 }
 

@@ -1,6 +1,7 @@
 // What was found in a grid.
 use super::tally::MARKER_ALONE;
 use super::tally::OTHER;
+use super::tally::OTHERWISE;
 use super::tally::OURS;
 use super::tally::PLAIN_ALONE;
 use super::tally::REFUSED;
@@ -37,24 +38,28 @@ pub(crate) fn grid(growers: u8, pilots: u8, least_hours: u8, most: Most) {
     end_line();
 }
 
-fn sound(counts: [usize; 12]) {
+fn sound(counts: [usize; 13]) {
     line(counts[TICKETS], b"tickets");
     line(counts[SOUND], b"settled soundly");
     line(counts[MARKER_ALONE], b"by the marker alone");
 }
 
-fn unsound(counts: [usize; 12]) {
+fn unsound(counts: [usize; 13]) {
     line(counts[PLAIN_ALONE], b"by the plain search alone");
     line(counts[UNSOUND], b"by neither");
-    line(counts[REFUSED], b"refused");
+    line(counts[REFUSED], b"refused with 18, by the plain check too");
+    line(
+        counts[OTHERWISE],
+        b"by one of the two alone, or with another number",
+    );
 }
 
-pub(crate) fn tickets(counts: [usize; 12]) {
+pub(crate) fn tickets(counts: [usize; 13]) {
     sound(counts);
     unsound(counts);
 }
 
-pub(crate) fn settlements(counts: [usize; 12]) {
+pub(crate) fn settlements(counts: [usize; 13]) {
     line(counts[OURS], b"of them met in the search");
     line(counts[OTHER], b"other sound settlements");
     line(counts[WRONG], b"unsound ones");

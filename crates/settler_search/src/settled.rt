@@ -1,5 +1,6 @@
-// A ticket settled, and what the marker and the plain search say of it.
+// A ticket settled, and what the marker and the plain search say of it; or refused, by the settler and by the plain check.
 use super::tally::MARKER_ALONE;
+use super::tally::OTHERWISE;
 use super::tally::PLAIN_ALONE;
 use super::tally::REFUSED;
 use super::tally::SOUND;
@@ -33,10 +34,26 @@ fn judged(ticket: &[u8], settlement: &[u8]) -> usize {
     }
 }
 
+fn refused(ticket: &[u8], why: u8) -> usize {
+    if plain::is_refused(ticket) && why == plain::WITHOUT_HOURS {
+        REFUSED
+    } else {
+        OTHERWISE
+    }
+}
+
+// The plain check refuses no ticket that is settled.
+fn passed(ticket: &[u8], settlement: &[u8]) -> usize {
+    if plain::is_refused(ticket) {
+        return OTHERWISE;
+    }
+    judged(ticket, settlement)
+}
+
 // Settles a ticket into the lent bytes. The answer is a place of the tally.
 pub(crate) fn of_ticket(ticket: &[u8], lent: &mut [u8; 19]) -> usize {
     match settler::settle(ticket, &mut *lent) {
-        Reply::Refused { why } => REFUSED,
-        Reply::Done { count } => judged(ticket, bytes::front(lent, count)),
+        Reply::Refused { why } => refused(ticket, why),
+        Reply::Done { count } => passed(ticket, bytes::front(lent, count)),
     }
 }

@@ -1,4 +1,6 @@
-// What is counted of a grid: tickets, by what was said of their settlements.
+// What is counted of a grid: tickets, by what was said of them and of their settlements.
+
+// Refused with 18, and by the plain check too.
 pub(crate) const REFUSED: usize = 0;
 
 pub(crate) const UNSOUND: usize = 1;
@@ -18,3 +20,6 @@ pub(crate) const OURS: usize = 6;
 pub(crate) const OTHER: usize = 7;
 
 pub(crate) const WRONG: usize = 8;
+
+// Tickets that are refused with another number, or by the settler or the plain check alone.
+pub(crate) const OTHERWISE: usize = 9;

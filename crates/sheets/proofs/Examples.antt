@@ -1,4 +1,5 @@
--- The definitions give the sheet of docs/FORMAT.md: that of ticket A, settled with its one tariff hour. And a refusal.
+-- The definitions give the sheet of docs/FORMAT.md: that of ticket A, settled with its one tariff hour. And refusals of
+-- one digit and of two.
 -- Assumes nothing.
 use mathlib.Core.Path.{_≡_, refl}
 use mathlib.Core.List.{[], _∷_}
@@ -18,3 +19,7 @@ sheet-of-a = refl
 pub refusal-nine : refusedText 9 ≡ 82 ∷ 69 ∷ 70 ∷ 85 ∷ 83 ∷ 69 ∷ 68 ∷ 32 ∷ 57 ∷ 10 ∷ []
 unfolding decimal
 refusal-nine = refl
+
+pub refusal-eighteen : refusedText 18 ≡ 82 ∷ 69 ∷ 70 ∷ 85 ∷ 83 ∷ 69 ∷ 68 ∷ 32 ∷ 49 ∷ 56 ∷ 10 ∷ []
+unfolding decimal
+refusal-eighteen = refl

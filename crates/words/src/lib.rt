@@ -4,4 +4,5 @@ mod meaning;
 mod spares;
 
 pub use meaning::explain;
+pub use meaning::is_of_ticket;
 pub use meaning::refusal;

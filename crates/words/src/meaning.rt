@@ -23,13 +23,22 @@ fn refusal_words(fd: i32, why: u8) {
         7 => say(fd, b"a cap above 60 or an amount above 500"),
         8 => say(fd, b"an amount in a deal of cap 0"),
         17 => say(fd, b"not sound"),
+        18 => say(
+            fd,
+            b"a cap above 0, but the grower or the pilot has no hours",
+        ),
         _ => say(fd, b"something is left at its end"),
     }
 }
 
+// Whether it is the ticket that is refused: 11 to 17 are those of the settlement.
+pub fn is_of_ticket(why: u8) -> bool {
+    why < 11 || why == 18
+}
+
 // Which file is refused, and why.
 pub fn refusal(fd: i32, why: u8) {
-    if why < 11 {
+    if is_of_ticket(why) {
         say(fd, b"ticket: ");
     } else {
         say(fd, b"settlement: ");

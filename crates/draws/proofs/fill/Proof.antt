@@ -38,8 +38,10 @@ whole : (c : tie.After-slice-known3) → c .before .before .fill-pairs .last .0 
     (c .before .before .before .before .before .before .before .before .before .args .x))
 whole c =
     let s = c .before .before .before .before .before .before .before .before .before in
-    ticket-stored (s .args .list .now) _ _ (s .args .growers) (s .args .pilots) (s .args .pairs) (s .args .x) _ (s .pre .0 .2)
-    (c .before .before .before .before .before .before .fill-hours .ensures .0)
+    ticket-stored (s .args .list .now) _ _ (s .args .growers) (s .args .pilots) (s .args .pairs) (s .args .x) _ _
+    (omega (arith, s .pre .0)) (s .pre .0 .2)
+    (c .before .before .before .before .before .before .fill-hours .ensures .0 .0)
+    (c .before .before .before .before .before .before .fill-hours .ensures .0 .1)
     (c .before .before .before .before .before .before .fill-hours .ensures .1)
     (c .before .before .fill-pairs .ensures)
 
@@ -62,6 +64,8 @@ fill-spec =
     slice-write-list-3
     (λ c. search needs)
     fill-hours-requires
+    (λ c. search needs)
+    (λ c. search needs)
     (λ c. search needs)
     fill-pairs-requires
     same-length

@@ -1,14 +1,10 @@
--- `checks::cap_fault` meets its contract: each way out rewrites by the test that led there. Assumes nothing.
-use borrow.Author.Tests.{eq-eqb, ne-eqb}
+-- `checks::cap_fault` meets its contract: the first of the two faults, as `capFault` has them. Assumes nothing.
 use borrow.Author.Needs.{needs}
 use Rattle.checks.proofs.ticket.cap_fault.Statement.{statement}
 use Rattle.checks.proofs.ticket.cap_fault.Tie as tie
 
 returns : tie.Need-returns
-returns c = rw (eq-eqb _ _ (c .before .if1 .taken)) (c .must .ensures)
-
-returns-2 : tie.Need-returns-2
-returns-2 c = rw (ne-eqb _ _ (c .if1 .left))
+returns c = rw (c .before .before .must .ensures, c .before .no-hours-fault .ensures) at (c .first .ensures)
 
 pub cap-fault-spec : {M : Type 1} → statement M
-cap-fault-spec = tie.close (tie.spec (λ c κs. search needs) returns returns-2)
+cap-fault-spec = tie.close (tie.spec (λ c κs. search needs) (λ c κs. search needs) (λ c κs. search needs) returns)

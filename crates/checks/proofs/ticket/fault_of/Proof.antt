@@ -19,7 +19,7 @@ returns-4 : tie.Need-returns-4
 returns-4 c = rw (c .before .enum-told4 .given .1) (c .must2 .ensures)
 
 returns-5 : tie.Need-returns-5
-returns-5 c = rw (c .before .enum-told5 .given .1) (c .must3 .ensures)
+returns-5 c = rw (c .before .enum-told5 .given .1) (c .cap-fault .ensures)
 
 returns-6 : tie.Need-returns-6
 returns-6 c = rw (c .before .enum-told6 .given .1) (c .amount-fault .ensures)
@@ -28,7 +28,7 @@ returns-7 : tie.Need-returns-7
 returns-7 c = rw (c .before .enum-told7 .given .1) (c .amount-fault2 .ensures)
 
 returns-8 : tie.Need-returns-8
-returns-8 c = rw (c .before .enum-told8 .given .1) (c .must4 .ensures)
+returns-8 c = rw (c .before .enum-told8 .given .1) (c .cap-fault2 .ensures)
 
 returns-9 : tie.Need-returns-9
 returns-9 c = rw (c .before .enum-told9 .given .1) (c .amount-fault3 .ensures)

@@ -8,10 +8,10 @@ use Rattle.draws.proofs.filling.fill_hours.Statement.{statement}
 use Rattle.draws.proofs.filling.fill_hours.Tie as tie
 
 abbrev Inv-loop : tie.InvT-loop
-Inv-loop list₀ from count x here₀ k₀ list here k = HoursLeft list₀ from count x list here k
+Inv-loop list₀ from count x here₀ without₀ k₀ list here without k = HoursLeft list₀ from count x list here without k
 
 abbrev μ-loop : tie.MeasureT-loop
-μ-loop list₀ from count x here₀ k₀ list here k = count - k
+μ-loop list₀ from count x here₀ without₀ k₀ list here without k = count - k
 
 loop-holds : tie.Need-loop-holds Inv-loop μ-loop
 loop-holds c = hours-start _ _ _ _
@@ -21,8 +21,9 @@ slice-write-list c = omega (arith, c .before .before .loop .inv .long)
 
 loop-again : tie.Need-loop-again Inv-loop μ-loop
 loop-again c =
-    hours-turn (c .before .before .before .loop .inv) _ _ (c .before .before .loop-test .taken) (c .before .hours .ensures)
-    (c .next .ensures)
+    let drawn = c .before .before .before in
+    hours-turn (drawn .before .before .loop .inv) _ _ _ _ (drawn .before .loop-test .taken) (drawn .hours .ensures)
+    (c .before .before .index .ensures .0) (c .before .noted .ensures) (c .next .ensures)
 
 returns : tie.Need-returns Inv-loop μ-loop
 returns c = hours-end (c .before .loop .inv) (omega arith)
@@ -38,6 +39,8 @@ fill-hours-spec =
     (λ c. search needs)
     (λ c. search needs)
     slice-write-list
+    (λ c κs. search needs)
+    (λ c κs. search needs)
     (λ c κs. search needs)
     (λ c. search needs)
     (λ c. search needs)

@@ -22,7 +22,7 @@ slice-write-list-5 c = simp length-set (omega arith)
 returns : tie.Need-returns
 returns c =
     let s = c .before .before .before .before .before .before .before .before .before .before .before in
-    pair-stored (s .args .list .now) (s .args .from) _ _ _ _ _ _ _ _ _ _ _
+    pair-stored (s .args .none) (s .args .list .now) (s .args .from) _ _ _ _ _ _ _ _ _ _ _
     (c .before .before .before .before .before .before .before .before .before .next .ensures)
     (c .before .before .before .before .before .before .before .before .next2 .ensures)
     (c .before .before .before .before .before .before .before .next3 .ensures)

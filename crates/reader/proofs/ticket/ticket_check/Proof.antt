@@ -1,4 +1,4 @@
--- `reader::ticket::ticket_check` meets its contract: the two answers in the field of the place. Assumes nothing.
+-- `reader::ticket::ticket_check` meets its contract: the places of pairs, and those before them. Assumes nothing.
 use Rattle.reader.proofs.TicketLaws.{pair-place}
 use borrow.Author.Needs.{needs}
 use Rattle.reader.proofs.ticket.ticket_check.Statement.{statement}
@@ -9,12 +9,6 @@ returns c =
     let s = c .before .before .before .before .args .s in
     rw (pair-place s (c .before .if1 .taken)) (c .deal-check .ensures)
 
-returns-2 : tie.Need-returns-2
-returns-2 c = (
-  rw (c .before .before .field-of .ensures) at (c .fault-of .ensures),
-  rw (c .before .before .field-of .ensures) at (c .before .after-of .ensures),
-)
-
 pub ticket-check-spec : {M : Type 1} → statement M
 ticket-check-spec =
     tie.close
@@ -22,8 +16,6 @@ ticket-check-spec =
     (λ c. search needs)
     (λ c. search needs)
     (λ c κs. search needs)
+    (λ c κs. search needs)
     returns
-    (λ c κs. search needs)
-    (λ c κs. search needs)
-    (λ c κs. search needs)
-    returns-2)
+    (λ c. search needs))
