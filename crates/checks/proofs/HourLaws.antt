@@ -6,11 +6,11 @@ use mathlib.Core.Logic.{⊎-elim, _⊎_}
 use mathlib.Core.List.{List, [], _∷_}
 use Prim.Native.Nat.{ℕ, zero, suc, _+_, _*_, _-_, _/_, _%_, _^_, _≤_, _<_}
 use native.Mathlib.Nat.{div-eq-of-lt, div-div-eq-div-mul, pow-le-pow-right, zero-add}
-use native.Mathlib.Nat.{mul-zero, mod-lt, mod-eq-of-lt, div-lt-iff-lt-mul, mul-add-div-right, mul-add-mod-self-right}
 use native.Mathlib.Omega.{arith}
 use lib.Dec.{eqb, lit<}
 use lib.ListN.{length, getD, take}
 use lib.Seq.{getD-take}
+use Rattle.grid.proofs.Places.{inside, cell-place}
 use Rattle.checks.specs.Hours.{noted, notedAll, hasNone, noneOf, noneIn}
 
 -- There is none beyond the last digit.
@@ -71,7 +71,7 @@ noted-small without x k h l =
     go false = omega arith
 
 -- Of several: the digits before them, and theirs.
-pub all-before : (without : ℕ) (xs : List ℕ) (k q : ℕ) → without < 2 ^ k → k + length xs ≤ 32 →
+all-before : (without : ℕ) (xs : List ℕ) (k q : ℕ) → without < 2 ^ k → k + length xs ≤ 32 →
     hasNone (notedAll without xs) (length xs + q) ≡ hasNone without q
 all-before without [] k q h l = rw (zero-add q)
 all-before without (x ∷ xs) k q h l =
@@ -79,7 +79,7 @@ all-before without (x ∷ xs) k q h l =
     let small = noted-small without x k h (omega arith) in
     rw e (all-before (noted without x) xs (suc k) (suc q) (small .1) (omega arith) ∙ noted-before without x (small .0) q)
 
-pub all-noted : (without : ℕ) (xs : List ℕ) (k p : ℕ) → without < 2 ^ k → k + length xs ≤ 32 → p < length xs →
+all-noted : (without : ℕ) (xs : List ℕ) (k p : ℕ) → without < 2 ^ k → k + length xs ≤ 32 → p < length xs →
     hasNone (notedAll without xs) (length xs - suc p) ≡ eqb (getD xs p 0) 0
 all-noted without [] k p h l m = absurd (omega arith)
 all-noted without (x ∷ xs) k zero h l m =
@@ -91,20 +91,12 @@ all-noted without (x ∷ xs) k (suc p) h l m =
     let small = noted-small without x k h (omega arith) in
     rw e (all-noted (noted without x) xs (suc k) p (small .1) (omega arith) (omega arith))
 
--- A pair's grower and pilot are among the n and the m.
-pilots-some : (n m q : ℕ) → q < n * m → 0 < m
-pilots-some n zero q h = absurd (omega (arith, mul-zero n))
-pilots-some n (suc m) q h = omega arith
-
-quotient-below : (n m q : ℕ) → q < n * m → q / m < n
-quotient-below n m q h = div-lt-iff-lt-mul (pilots-some n m q h) .1 h
-
 -- Who is noted at the pairs: everybody without hours.
 pub none-noted : (hours : List ℕ) (n m q : ℕ) → length hours ≡ n + m → n + m ≤ 32 → q < n * m →
     noneOf (notedAll 0 hours) n m q ≡ noneIn hours n m q
 none-noted hours n m q l few h =
-    let i = quotient-below n m q h in
-    let j = mod-lt q (pilots-some n m q h) in
+    let i = inside n m q h .grower in
+    let j = inside n m q h .pilot in
     let eᵢ : n + m - suc (q / m) ≡ length hours - suc (q / m) = omega arith in
     let eⱼ : m - suc (q % m) ≡ length hours - suc (n + q % m) = omega arith in
     rw (
@@ -117,17 +109,16 @@ none-noted hours n m q l few h =
 -- Their hours stand in front of whatever else follows.
 pub none-taken : (xs : List ℕ) (n m q : ℕ) → q < n * m → noneIn (take (n + m) xs) n m q ≡ noneIn xs n m q
 none-taken xs n m q h =
-    let i = quotient-below n m q h in
-    let j = mod-lt q (pilots-some n m q h) in
+    let i = inside n m q h .grower in
+    let j = inside n m q h .pilot in
     rw (getD-take (n + m) xs (q / m) 0 (omega arith), getD-take (n + m) xs (n + q % m) 0 (omega arith))
 
--- The same of grower i and pilot j.
+-- The pair of grower i and pilot j has somebody without hours, if either has none.
 pub none-of-pair : (hours : List ℕ) (n m i j : ℕ) → j < m → (getD hours i 0 ≡ 0) ⊎ (getD hours (n + j) 0 ≡ 0) →
     noneIn hours n m (i * m + j) ≡ true
 none-of-pair hours n m i j h none =
-    let eᵢ : (i * m + j) / m ≡ i = mul-add-div-right (omega arith) i j ∙ omega (arith, div-eq-of-lt h) in
-    let eⱼ : (i * m + j) % m ≡ j = mul-add-mod-self-right i m j ∙ mod-eq-of-lt h in
-    rw (eᵢ, eⱼ) (⊎-elim (λ e. rw e) (λ e. rw e (or-true (eqb (getD hours i 0) 0))) none)
+    let e = cell-place m i j h in
+    rw (e .0, e .1) (⊎-elim (λ e. rw e) (λ e. rw e (or-true (eqb (getD hours i 0) 0))) none)
   where
     or-true : (b : Bool) → (b || true) ≡ true
     or-true true = refl

@@ -4,7 +4,6 @@ use mathlib.Core.Bool.{Bool, true}
 use mathlib.Core.List.{List, [], _∷_}
 use Prim.Native.Nat.{ℕ, zero, suc, _+_, _-_, _*_, _/_, _%_, _≤_, _<_}
 use native.Mathlib.Omega.{arith}
-use borrow.Author.Tests.{lt-ltb}
 use lib.Dec.{lit<}
 use lib.ListN.{length, getD, take, drop}
 use lib.Seq.{drop-cons, length-take-le, take-take}
@@ -17,10 +16,10 @@ use Rattle.checks.proofs.FaultLaws.{amount-range, amount-none, cap-range, cap-n
 use Rattle.reader.specs.declared.layout.State.{State}
 use Rattle.reader.specs.Walk.{final}
 use Rattle.reader.specs.State.{start}
-use Rattle.reader.specs.Ticket.{dealField, fieldOf, afterOf}
+use Rattle.reader.specs.Ticket.{dealField, afterOf}
 use Rattle.reader.specs.Layout.{ticket}
 use Rattle.reader.proofs.WalkLaws.{Good, good-drop}
-use Rattle.reader.proofs.TicketLaws.{place-after, pair-place, deal-place, after-steady, Stands, stands}
+use Rattle.reader.proofs.TicketLaws.{hours-place, pair-place, deal-place, after-steady, Stands, stands}
 
 -- The five numbers of a pair: caps at most 60, amounts at most 500, and none where the cap is 0.
 pub record Deal (tariffCap tariffGain tariffPay freeCap freeGain : ℕ) : Type 0 where
@@ -33,7 +32,7 @@ pub record Deal (tariffCap tariffGain tariffPay freeCap freeGain : ℕ) : Type 0
   pub noFree : freeCap ≡ 0 → freeGain ≡ 0
 
 -- No number of a pair has a fault, where `none` says whether somebody of it has no hours.
-pub record Faultless (none : Bool) (a b c d e : ℕ) : Type 0 where
+record Faultless (none : Bool) (a b c d e : ℕ) : Type 0 where
   pub tariffCap : capFault none a ≡ 0
   pub tariffGain : amountFault a b ≡ 0
   pub tariffPay : amountFault a c ≡ 0
@@ -112,14 +111,13 @@ hours-noted : (s : State) (xs : List ℕ) (n m k p : ℕ) → Stands s n m p →
 hours-noted s xs n m zero p t h e = pairs-noted s xs n m p t (omega arith)
 hours-noted s [] n m (suc k) p t h e = refl
 hours-noted s (x ∷ xs) n m (suc k) p t h e =
-    let f : fieldOf s ≡ Hours =
-    rw (t .growers, t .pilots, t .place) (place-after n m p h ∙ rw (lt-ltb (p - 3) (n + m) (omega arith))) in
+    let f = hours-place s (omega (arith, t .place)) (omega (arith, t .growers, t .pilots, t .place)) in
     ap (λ (g : Field). (final ticket (afterOf g s x) xs) .without) f
     ∙ hours-noted (afterOf Hours s x) xs n m k (suc p)
     (record { growers = t .growers; pilots = t .pilots; place = omega (arith, t .place) }) (omega arith) (omega arith)
 
 -- The pair q of an accepted ticket.
-pub ticket-faultless : (k n m : ℕ) (xs : List ℕ) → Good ticket start (k ∷ n ∷ m ∷ xs) → (q r : ℕ) → r ≡ n + m + 5 * q → r + 4 < length xs →
+ticket-faultless : (k n m : ℕ) (xs : List ℕ) → Good ticket start (k ∷ n ∷ m ∷ xs) → (q r : ℕ) → r ≡ n + m + 5 * q → r + 4 < length xs →
     Faultless (noneOf (notedAll 0 (take (n + m) xs)) n m q)
     (getD xs r 0) (getD xs (r + 1) 0) (getD xs (r + 2) 0) (getD xs (r + 3) 0) (getD xs (r + 4) 0)
 ticket-faultless k n m xs g q r e l =

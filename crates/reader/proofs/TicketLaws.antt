@@ -234,6 +234,5 @@ ticket-hours k n m xs g q h l =
     let s = final ticket start (take (suc (suc (suc q))) (k ∷ n ∷ m ∷ xs)) in
     let t = stands k n m xs q (omega arith) in
     let e = good-at ticket start (k ∷ n ∷ m ∷ xs) (suc (suc (suc q))) (omega arith) g in
-    let f : fieldOf s ≡ Hours =
-    rw (t .growers, t .pilots, t .place) (place-after n m (3 + q) (omega arith) ∙ rw (lt-ltb (3 + q - 3) (n + m) (omega arith))) in
+    let f = hours-place s (omega (arith, t .place)) (omega (arith, t .growers, t .pilots, t .place)) in
     rw f at (field-range (fieldOf s) (s .cap) (noneFor (fieldOf s) s) (getD xs q 0) e)
