@@ -1,23 +1,16 @@
 // What everybody earns over all his hours. What is said of a grower is said of a pilot too, whose rows are those of the squares on their
 // side, and who gives nothing of his pay away.
 ghost use mathlib.Core.Path.{_≡_};
-ghost use Prim.Native.Nat.{ℕ, _*_, _<_, _≤_};
+ghost use Prim.Native.Nat.{ℕ, _<_, _≤_};
 ghost use lib.ListN.{getD, length};
 ghost use Rattle.market.specs.Accounts.{growerGain, pilotPay};
 ghost use Rattle.tables.specs.View.{growersOf, pilotsOf, ticketOf, settlementOf};
 ghost use Rattle.accounts.specs.Earnings.{earnedIn, earnedAt, Modest};
 use grid::turned;
 use numbers::less;
-use numbers::wide;
+use numbers::product;
 use tables::Quantity;
 use tables::square;
-
-// Hours times an amount, at the width that earnings are added in.
-fn product(hours: u16, amount: u16) -> u64
-    ensures { λ r. ⌜ (r ≡ hours * amount) × (r < 4294967296) ⌝ }
-{
-    (wide(hours) * wide(amount)) as u64
-}
 
 // What a party earns over all its hours with so many partners.
 fn earned(

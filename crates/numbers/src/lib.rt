@@ -39,6 +39,13 @@ pub fn widest(x: u32) -> u64
     x as u64
 }
 
+// A product at that width, in which 2^32 of them can be added.
+pub fn product(x: u16, y: u16) -> u64
+    ensures { λ r. ⌜ (r ≡ x * y) × (r < 4294967296) ⌝ }
+{
+    widest(wide(x) * wide(y))
+}
+
 // A number of a list as a count or a place.
 pub fn index(x: u16) -> usize
     ensures { λ r. ⌜ (r ≡ x) × (r < 65536) ⌝ }
