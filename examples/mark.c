@@ -1,9 +1,10 @@
 /*
  * Marks a settlement file against its ticket file, says the verdict in words, and
- * prints the account of a sound settlement.
+ * prints the worth and the account of a sound settlement.
  */
 #include "hours_exchange.h"
 
+#include <inttypes.h>
 #include <stdio.h>
 
 /*
@@ -121,6 +122,7 @@ int main(int argc, char **argv)
     size_t ticket_length;
     size_t settlement_length;
     uint64_t mark;
+    uint64_t worth;
     uint32_t reply;
 
     if (argc != 3) {
@@ -135,6 +137,11 @@ int main(int argc, char **argv)
     print_mark(mark);
     if (exchange_mark_verdict(mark) != EXCHANGE_SOUND) {
         return 0;
+    }
+    /* 0 where there is a tariff deal too, so that only a greater worth is a promise. */
+    worth = exchange_worth(ticket, ticket_length, settlement, settlement_length);
+    if (worth > 0) {
+        printf("worth %" PRIu64 " euros: no settlement of this ticket is worth more\n", worth);
     }
     reply = exchange_account(ticket, ticket_length, settlement, settlement_length,
                              account, EXCHANGE_ACCOUNT_NUMBERS);

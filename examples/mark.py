@@ -1,4 +1,4 @@
-"""Marks a settlement file against its ticket file, says the verdict in words, and prints the account of a sound settlement.
+"""Marks a settlement file against its ticket file, says the verdict in words, and prints the worth and the account of a sound settlement.
 
 The archive must have been linked into a shared object, as run.sh does:
 
@@ -44,11 +44,13 @@ REFUSED = 65536
 
 
 def load(path):
-    """A shared object with the two functions. Bytes go as a pointer and a length, and so does the list of an account."""
+    """A shared object with the three functions. Bytes go as a pointer and a length, and so does the list of an account."""
     exchange = ctypes.CDLL(path)
     files = [ctypes.c_char_p, ctypes.c_size_t] * 2
     exchange.exchange_mark.argtypes = files
     exchange.exchange_mark.restype = ctypes.c_uint64
+    exchange.exchange_worth.argtypes = files
+    exchange.exchange_worth.restype = ctypes.c_uint64
     exchange.exchange_account.argtypes = files + [ctypes.POINTER(ctypes.c_uint32), ctypes.c_size_t]
     exchange.exchange_account.restype = ctypes.c_uint32
     return exchange
@@ -65,6 +67,12 @@ def in_words(number):
     deal = "free" if number >> 24 & 0xFF else "tariff"
     fault = FAULTS[verdict].format(grower=number >> 8 & 0xFF, pilot=number >> 16 & 0xFF, deal=deal)
     return f"not sound, verdict {verdict}: {fault}"
+
+
+def worth_lines(exchange, ticket, settlement):
+    """What a sound settlement is worth. It is 0 where there is a tariff deal too, so that only a greater worth is a promise."""
+    worth = exchange.exchange_worth(ticket, len(ticket), settlement, len(settlement))
+    return [f"worth {worth} euros: no settlement of this ticket is worth more"] if worth > 0 else []
 
 
 def account_lines(exchange, ticket, settlement):
@@ -92,7 +100,8 @@ def main():
     mark = exchange.exchange_mark(ticket, len(ticket), settlement, len(settlement))
     print(in_words(mark))
     if mark & 0xFF == SOUND:
-        print("\n".join(account_lines(exchange, ticket, settlement)))
+        lines = worth_lines(exchange, ticket, settlement) + account_lines(exchange, ticket, settlement)
+        print("\n".join(lines))
 
 
 if __name__ == "__main__":

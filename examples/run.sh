@@ -1,16 +1,21 @@
 #!/usr/bin/env bash
 # Builds mark.c, and a shared object for mark.py, over the proved archive, and runs both on the example files.
-# Each says what it must: the verdict, and of a sound settlement the account. The exit status is 1 if any does not, or if something
-# cannot be built.
+# Each says what it must: the verdict, and of a sound settlement its worth, if there is no tariff deal, and the account. So does
+# the program exchange, in its own words. The exit status is 1 if any does not, or if something cannot be built.
 set -eu
 root=$(cd "$(dirname "$0")/.." && pwd)
 examples=$root/examples
 archive=$root/target/staticlib/libexchange_c.a
+program=$root/target/bin/exchange
 out=$root/target/examples
 
 if [ ! -f "$archive" ]; then
     echo "proving the archive: rt staticlib exchange_c"
     (cd "$root" && rt staticlib exchange_c >/dev/null) || { echo "run.sh: no archive"; exit 1; }
+fi
+if [ ! -x "$program" ]; then
+    echo "proving the program: rt check exchange"
+    (cd "$root" && rt check exchange >/dev/null) || { echo "run.sh: no program"; exit 1; }
 fi
 mkdir -p "$out"
 gcc -std=c11 -O2 -Wall -Wextra -pedantic -Werror -I"$root/include" "$examples/mark.c" "$archive" -o "$out/mark" || exit 1
@@ -45,8 +50,21 @@ expect() {
     compare "mark.py $name" "$lines" python3 "$examples/mark.py" "$out/libexchange_c.so" "$ticket" "$settlement"
 }
 
+# What `exchange mark` says before its own sheet.
+marked() {
+    "$program" mark "$1" "$2" | sed '/^SHEET/,$d'
+}
+
+# expect_program TICKET SETTLEMENT LINE..
+expect_program() {
+    local name="$1 $2" ticket=$examples/$1.ticket settlement=$examples/$2.settlement
+    shift 2
+    compare "exchange mark $name" "$(printf '%s\n' "$@")" marked "$ticket" "$settlement"
+}
+
 expect small small-no_hours "not sound, verdict 7: the tariff deal of grower 0 and pilot 0 is idle"
 expect two_pilots two_pilots-sound "sound: 4 deals looked at" \
+    "worth 10 euros: no settlement of this ticket is worth more" \
     "grower 0 gains 7 euros" \
     "pilot 0 is paid 3 euros, commission 0.20 euros" \
     "pilot 1 is paid 0 euros, commission 0.00 euros"
@@ -67,6 +85,17 @@ expect week week-grower_over_hours "not sound, verdict 5: grower 1 has more hour
 expect week_pilot_off week-sound "refused with 18: the ticket has a cap above 0, but the grower or the pilot has no hours"
 expect week week-cut_short "refused with 11: the settlement ends early"
 expect week small-no_hours "refused with 15: the settlement's growers or pilots are not the ticket's"
+
+expect_program two_pilots two_pilots-sound "MARK 1 0 0 tariff 4" \
+    "sound: no deal is idle or blocks" \
+    "worth 10: no settlement of this ticket is worth more"
+expect_program both_deals both_deals-sound "MARK 1 0 0 tariff 2" \
+    "sound: no deal is idle or blocks"
+expect_program two_pilots two_pilots-pay_above_3 "MARK 8 0 1 free 4" \
+    "grower 0, pilot 1, free deal: blocks" \
+    "an hour more earns them 7 together" \
+    "grower 0 gives up an hour with pilot 0, free deal, worth 6" \
+    "pilot 1 gives up a free hour, worth 0"
 
 echo "examples: $passed passed, $failed failed"
 [ "$failed" -eq 0 ]

@@ -1,5 +1,5 @@
 /*
- * The hours exchange for C and C++: tickets, settlements, accounts and sheets.
+ * The hours exchange for C and C++: tickets, settlements, worths, accounts and sheets.
  *
  * The functions stand in the archive that `rt staticlib exchange_c` proves and
  * writes, target/staticlib/libexchange_c.a:
@@ -161,6 +161,23 @@ static inline uint32_t exchange_mark_deal(uint64_t mark)
 static inline uint32_t exchange_mark_count(uint64_t mark)
 {
     return (uint32_t)(mark >> 32 & 0xffffff);
+}
+
+/*
+ * Marks a settlement against its ticket, and returns the worth that is given with
+ * the verdict: what all free-deal hours gain together, in euros. No settlement of
+ * that ticket is worth more. It is 0 where the verdict is not EXCHANGE_SOUND, where a
+ * tariff cap is above 0, and where nothing is gained; the number does not tell these
+ * apart. Refusal k is returned as k times 2^56, which is more than any worth. Nothing
+ * is written.
+ */
+uint64_t exchange_worth(const uint8_t *ticket, size_t ticket_length,
+                        const uint8_t *settlement, size_t settlement_length);
+
+/* Why a worth is none, as exchange_mark_refusal says it of a mark. 0 if it is one. */
+static inline uint32_t exchange_worth_refusal(uint64_t worth)
+{
+    return (uint32_t)(worth >> 56);
 }
 
 #ifdef __cplusplus

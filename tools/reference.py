@@ -2,8 +2,8 @@
 
     python3 tools/reference.py crates/cases/stdin PROGRAM_OUTPUT > expected
 
-reads the cases and writes the report that is expected of them. Unpacking, packing, marking and accounts follow the words of the paper, with
-every spare listed one by one. For `settle` and for the `sheet` of a ticket that can be settled many answers are right: there the
+reads the cases and writes the report that is expected of them. Unpacking, packing, marking, worths and accounts follow the words of the paper,
+with every spare listed one by one. For `settle` and for the `sheet` of a ticket that can be settled many answers are right: there the
 program's own answer is taken from PROGRAM_OUTPUT, judged, and written through only if it is a sound settlement, or the sheet of
 one. Otherwise a line says what is wrong. So the program is right if `expected` is the same as PROGRAM_OUTPUT.
 
@@ -241,6 +241,11 @@ class Settlement:
         lines.append("SOUND %d" % self.verdict()[4])
         return "".join(line + "\n" for line in lines)
 
+    def total(self):
+        """The worth that is given with the verdict: free-deal hours times c, but 0 with a tariff cap or if not sound."""
+        if self.verdict()[0] != 1 or any(self.ticket.cap(pair, TARIFF) > 0 for pair in self.ticket.pairs):
+            return 0
+        return sum(self.hours(pair, FREE) * self.ticket.terms[pair][4] for pair in self.ticket.pairs)
 
     def account(self):
         """Each grower's gain, then each pilot's pay and commission in cents."""
@@ -270,6 +275,13 @@ def account(ticket_data, settlement_data):
 def mark(ticket_data, settlement_data):
     ticket = Ticket(unpack(ticket_data))
     return Settlement(ticket, read_settlement(settlement_data, ticket.n, ticket.m)).verdict()
+
+
+def worth(ticket_data, settlement_data):
+    """The number of the verdict, and the worth."""
+    ticket = Ticket(unpack(ticket_data))
+    settlement = Settlement(ticket, read_settlement(settlement_data, ticket.n, ticket.m))
+    return settlement.verdict()[0], settlement.total()
 
 
 # The lines of the cases
@@ -333,6 +345,13 @@ def hex_byte(x):
 def verdict_line(work):
     try:
         return "  %d %d %d %s %d\n" % work()
+    except Refused as refusal:
+        return "  refused %d\n" % refusal.why
+
+
+def worth_line(work):
+    try:
+        return "  %d worth %d\n" % work()
     except Refused as refusal:
         return "  refused %d\n" % refusal.why
 
@@ -416,11 +435,13 @@ def answer_to(line, own):
     """The expected answer to a line. `own` is the program's."""
     words = line.split(" ")
     operation = words[0]
-    if operation in ("mark", "account"):
+    if operation in ("mark", "worth", "account"):
         ticket, _, settlement = line[len(operation) + 1 :].partition("/")
         ticket, settlement = document(ticket, hexadecimal), document(settlement, hexadecimal)
         if operation == "mark":
             return verdict_line(lambda: mark(ticket, settlement))
+        if operation == "worth":
+            return worth_line(lambda: worth(ticket, settlement))
         return account_line(lambda: account(ticket, settlement))
     heads = {"unpack": 1, "pack": 1, "read": 3, "write": 3, "settle": 1, "sheet": 1}
     if operation not in heads or len(words) <= heads[operation]:

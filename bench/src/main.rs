@@ -5,7 +5,7 @@
 
 use std::time::Duration;
 
-use exchange_bench::draw::shapes::{Shape, random, shapes};
+use exchange_bench::draw::shapes::{Shape, only_free, random, shapes};
 use exchange_bench::plain::account::account_into;
 use exchange_bench::plain::settle::{Rises, Turns, settle, settle_ticket};
 use exchange_bench::plain::sheet::sheet;
@@ -141,6 +141,14 @@ fn operations() -> Table {
             mark::mark(ticket, settlement).is_ok()
         })
     });
+    push(
+        "mark, only free deals, plain Rust by cheapest spares too",
+        &|| {
+            mark_times(&only_free().tickets, |ticket, settlement| {
+                cheapest::mark(ticket, settlement).is_ok()
+            })
+        },
+    );
     push("account", &|| account_times(&tickets));
     push("sheet", &|| sheet_times(&files));
     table

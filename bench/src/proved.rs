@@ -34,6 +34,8 @@ unsafe extern "C" {
         places: usize,
     ) -> u32;
     fn exchange_mark(ticket: *const u8, bytes: usize, settlement: *const u8, length: usize) -> u64;
+    fn exchange_worth(ticket: *const u8, bytes: usize, settlement: *const u8, length: usize)
+    -> u64;
 }
 
 pub fn unpack(ticket: &[u8], list: &mut [u16]) -> Answer<usize> {
@@ -73,6 +75,15 @@ pub fn mark(ticket: &[u8], settlement: &[u8]) -> Answer<Verdict> {
     verdict_or_refusal(number)
 }
 
+/// The worth that is given with the verdict.
+pub fn worth(ticket: &[u8], settlement: &[u8]) -> Answer<u64> {
+    let length = settlement.len();
+    // SAFETY: as above.
+    let number =
+        unsafe { exchange_worth(ticket.as_ptr(), ticket.len(), settlement.as_ptr(), length) };
+    worth_or_refusal(number)
+}
+
 pub fn account(ticket: &[u8], settlement: &[u8], list: &mut [u32]) -> Answer<usize> {
     // SAFETY: as above.
     let number = unsafe {
@@ -109,4 +120,12 @@ fn verdict_or_refusal(number: u64) -> Answer<Verdict> {
         deal: Deal::BOTH[usize::from(deal)],
         count: (number >> 32) as usize,
     })
+}
+
+/// A refusal in the top byte; else the number is the worth.
+fn worth_or_refusal(number: u64) -> Answer<u64> {
+    match (number >> 56) as u8 {
+        0 => Ok(number),
+        refusal => Err(refusal),
+    }
 }

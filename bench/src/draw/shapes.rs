@@ -46,9 +46,7 @@ pub fn shapes() -> Vec<Shape> {
             "the same, tariffs good for pilots",
             one_hour_short(tariffs_for_pilots),
         ),
-        drawn("16 by 16, only free deals", |generator| {
-            ticket(generator, 16, 16, Style::OnlyFree)
-        }),
+        only_free(),
         drawn("16 by 16, only tariff deals", |generator| {
             ticket(generator, 16, 16, Style::OnlyTariff)
         }),
@@ -62,6 +60,13 @@ pub fn shapes() -> Vec<Shape> {
 /// The random tickets of 16 by 16.
 pub fn random() -> Shape {
     drawn("16 by 16, random", |generator| wide(generator, 16))
+}
+
+/// Those without tariff deals.
+pub fn only_free() -> Shape {
+    drawn("16 by 16, only free deals", |generator| {
+        ticket(generator, 16, 16, Style::OnlyFree)
+    })
 }
 
 fn one(name: &'static str, ticket: Ticket) -> Shape {

@@ -51,6 +51,19 @@ pub fn ticket(generator: &mut Generator, growers: usize, pilots: usize, style: S
     ticket
 }
 
+/// A ticket without its tariff deals.
+pub fn free_deals_of(ticket: &Ticket) -> Ticket {
+    let only_free = |terms: &Terms| Terms {
+        free_cap: terms.free_cap,
+        joint_gain: terms.joint_gain,
+        ..Terms::default()
+    };
+    Ticket {
+        terms: ticket.terms.iter().map(only_free).collect(),
+        ..ticket.clone()
+    }
+}
+
 /// Who has no hours has no deals.
 fn clear_without_hours(ticket: &mut Ticket) {
     let pilots = ticket.pilots();

@@ -29,6 +29,8 @@ pub struct Verdict {
     pub deal: Deal,
     /// How many deals the last walk looked at.
     pub count: usize,
+    /// Of a sound settlement of a ticket without tariff deals, what all its hours gain; else 0.
+    pub worth: u64,
 }
 
 /// One deal of a ticket.
@@ -105,6 +107,7 @@ impl Market<'_> {
                 pilot,
                 deal,
                 count: 0,
+                worth: 0,
             })
         })
     }
@@ -165,8 +168,27 @@ impl Market<'_> {
         }
         Verdict {
             count,
+            worth: self.promised_worth(),
             ..party_verdict(Finding::Sound, 0, 0)
         }
+    }
+
+    /// The worth that is given with a sound settlement: 0 where a tariff cap is above 0.
+    fn promised_worth(&self) -> u64 {
+        if self.ticket.has_tariff_deal() {
+            0
+        } else {
+            self.gain_total()
+        }
+    }
+
+    /// What all hours of free deals gain together.
+    pub fn gain_total(&self) -> u64 {
+        let gains = self.pairs().map(|(grower, pilot)| {
+            let (terms, agreement) = self.pair(grower, pilot);
+            u64::from(agreement.free_deal_hours) * u64::from(terms.joint_gain)
+        });
+        gains.sum()
     }
 
     fn is_unfilled(&self, place: Place) -> bool {
@@ -298,6 +320,7 @@ fn party_verdict(finding: Finding, grower: usize, pilot: usize) -> Verdict {
         pilot,
         deal: Deal::Tariff,
         count: 0,
+        worth: 0,
     }
 }
 
@@ -308,5 +331,6 @@ fn deal_verdict(finding: Finding, place: Place, count: usize) -> Verdict {
         pilot: place.pilot,
         deal: place.deal,
         count,
+        worth: 0,
     }
 }

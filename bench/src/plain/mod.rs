@@ -3,6 +3,7 @@
 
 pub mod account;
 pub mod cheapest;
+pub mod flow;
 pub mod jumps;
 pub mod mark;
 pub mod numbers;

@@ -48,6 +48,11 @@ impl Ticket {
         &self.terms[grower * self.pilots() + pilot]
     }
 
+    /// Whether some tariff cap is above 0.
+    pub fn has_tariff_deal(&self) -> bool {
+        self.terms.iter().any(|terms| terms.tariff_cap > 0)
+    }
+
     /// The ticket of numbers that have passed their checks.
     fn from_numbers(numbers: &[u16]) -> Ticket {
         let (growers, pilots) = (usize::from(numbers[1]), usize::from(numbers[2]));

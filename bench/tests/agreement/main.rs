@@ -11,3 +11,4 @@ mod settle;
 mod sheet;
 mod tally;
 mod unpack;
+mod worth;

@@ -14,6 +14,8 @@ use crate::tally::Tally;
 const TICKETS: usize = 12_000;
 const SETTLEMENTS_OF_EACH: usize = 10;
 
+const WORTH_SOMETHING: &str = "worth above 0";
+
 /// A plain answer, as the C interface gives it.
 pub fn as_proved(answer: Result<Verdict, Refusal>) -> Answer<proved::Verdict> {
     match answer {
@@ -28,12 +30,27 @@ pub fn as_proved(answer: Result<Verdict, Refusal>) -> Answer<proved::Verdict> {
     }
 }
 
-/// The proved marker, the one that tries every spare, and the one by cheapest spares agree. Answers with their refusal.
+/// The worth of a plain answer, in the same way.
+pub fn worth_of(answer: Result<Verdict, Refusal>) -> Answer<u64> {
+    match answer {
+        Err(refusal) => Err(refusal as u8),
+        Ok(verdict) => Ok(verdict.worth),
+    }
+}
+
+/// The proved marker, the one that tries every spare, and the one by cheapest spares agree, on the worth too. Answers with
+/// their refusal.
 fn same_mark(ticket: &[u8], settlement: &[u8], tally: &mut Tally) -> Option<u8> {
     let answer = proved::mark(ticket, settlement);
-    assert_eq!(answer, as_proved(mark(ticket, settlement)));
-    assert_eq!(answer, as_proved(cheapest::mark(ticket, settlement)));
+    let worth = proved::worth(ticket, settlement);
+    for plain in [mark(ticket, settlement), cheapest::mark(ticket, settlement)] {
+        assert_eq!(answer, as_proved(plain));
+        assert_eq!(worth, worth_of(plain));
+    }
     tally.answered(answer);
+    if matches!(worth, Ok(1..)) {
+        tally.kind(WORTH_SOMETHING);
+    }
     if let Ok(verdict) = answer {
         tally.verdict(verdict.number);
     }
@@ -71,5 +88,6 @@ fn mark_agrees() {
     tally.report("mark");
     tally.expect_refusals((1..=9).chain(11..=16).chain([18]));
     tally.expect_kinds(kinds("ticket's file "));
+    tally.expect_at_least(5_000, WORTH_SOMETHING);
     tally.expect_verdicts(1..=8);
 }

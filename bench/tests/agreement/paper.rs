@@ -7,32 +7,41 @@ use exchange_bench::plain::ticket::unpack;
 use exchange_bench::proved;
 
 use crate::buffers::same_answer;
-use crate::mark::as_proved;
+use crate::mark::{as_proved, worth_of};
 
 const A: &[u8] = &[1, 1, 1, 3, 2, 1, 4, 3, 0, 0];
 const B: &[u8] = &[1, 1, 2, 1, 1, 1, 0, 0, 0, 1, 10, 0, 0, 0, 1, 7];
 const C: &[u8] = &[1, 1, 1, 1, 1, 1, 5, 5, 1, 12];
 const D: &[u8] = &[1, 1, 1, 1, 2, 0, 0, 0, 2, 10];
 
-/// Ticket, settlement, verdict, grower, pilot, deal, count.
-type Row = (&'static [u8], &'static [u8], u8, usize, usize, Deal, usize);
+/// Ticket, settlement, verdict, grower, pilot, deal, count, worth.
+type Row = (
+    &'static [u8],
+    &'static [u8],
+    u8,
+    usize,
+    usize,
+    Deal,
+    usize,
+    u64,
+);
 
 const SITTINGS: [Row; 10] = [
-    (A, &[2, 1, 1, 1, 0, 0], 1, 0, 0, Tariff, 2),
-    (A, &[2, 1, 1, 0, 0, 0], 7, 0, 0, Tariff, 1),
-    (A, &[2, 1, 1, 2, 0, 0], 2, 0, 0, Tariff, 0),
-    (A, &[2, 1, 1, 1, 0, 5], 4, 0, 0, Free, 0),
-    (B, &[2, 1, 2, 0, 1, 3, 0, 0, 0], 1, 0, 0, Tariff, 4),
-    (B, &[2, 1, 2, 0, 1, 4, 0, 0, 0], 8, 0, 1, Free, 4),
-    (B, &[2, 1, 2, 0, 0, 0, 0, 1, 0], 8, 0, 0, Free, 2),
-    (C, &[2, 1, 1, 1, 0, 0], 8, 0, 0, Free, 2),
-    (C, &[2, 1, 1, 0, 1, 12], 1, 0, 0, Tariff, 2),
-    (D, &[2, 1, 1, 0, 1, 5], 1, 0, 0, Tariff, 2),
+    (A, &[2, 1, 1, 1, 0, 0], 1, 0, 0, Tariff, 2, 0),
+    (A, &[2, 1, 1, 0, 0, 0], 7, 0, 0, Tariff, 1, 0),
+    (A, &[2, 1, 1, 2, 0, 0], 2, 0, 0, Tariff, 0, 0),
+    (A, &[2, 1, 1, 1, 0, 5], 4, 0, 0, Free, 0, 0),
+    (B, &[2, 1, 2, 0, 1, 3, 0, 0, 0], 1, 0, 0, Tariff, 4, 10),
+    (B, &[2, 1, 2, 0, 1, 4, 0, 0, 0], 8, 0, 1, Free, 4, 0),
+    (B, &[2, 1, 2, 0, 0, 0, 0, 1, 0], 8, 0, 0, Free, 2, 0),
+    (C, &[2, 1, 1, 1, 0, 0], 8, 0, 0, Free, 2, 0),
+    (C, &[2, 1, 1, 0, 1, 12], 1, 0, 0, Tariff, 2, 0),
+    (D, &[2, 1, 1, 0, 1, 5], 1, 0, 0, Tariff, 2, 10),
 ];
 
 #[test]
 fn marked_sittings() {
-    for (ticket, settlement, number, grower, pilot, deal, count) in SITTINGS {
+    for (ticket, settlement, number, grower, pilot, deal, count, worth) in SITTINGS {
         let expected = proved::Verdict {
             number,
             grower,
@@ -40,8 +49,11 @@ fn marked_sittings() {
             deal,
             count,
         };
-        assert_eq!(as_proved(mark(ticket, settlement)), Ok(expected));
+        let plain = mark(ticket, settlement);
+        assert_eq!(as_proved(plain), Ok(expected));
         assert_eq!(proved::mark(ticket, settlement), Ok(expected));
+        assert_eq!(worth_of(plain), Ok(worth));
+        assert_eq!(proved::worth(ticket, settlement), Ok(worth));
     }
 }
 

@@ -63,6 +63,12 @@ impl Tally {
         }
     }
 
+    /// So many inputs of this kind were met.
+    pub fn expect_at_least(&self, least: u64, kind: &str) {
+        let met = self.kinds.get(kind).copied().unwrap_or_default();
+        assert!(met >= least, "{kind} must be met {least} times, not {met}");
+    }
+
     /// Exactly these refusals were met.
     pub fn expect_refusals(&self, numbers: impl IntoIterator<Item = u8>) {
         expect_all("refusal", &self.refusals, numbers);

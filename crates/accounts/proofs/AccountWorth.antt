@@ -37,7 +37,7 @@ by-verdict : (t : Ticket) (x : Settlement) (v : Verdict) (count : ℕ) → (verd
     accountIn (outcomeBy v (accountNumbers t x)) .reply ≡ Reply.Done count →
     (count ≡ t .growers + 2 * t .pilots) × HandsOut t x (accountIn (outcomeBy v (accountNumbers t x)) .list)
 by-verdict t x (Refused w) count f e = never cc
-by-verdict t x (Sound k) count f e =
+by-verdict t x (Sound k w) count f e =
     let counted : length (accountNumbers t x) ≡ count = cc in
     (sym counted ∙ account-length t x, numbers-hand-out t x (f refl))
 by-verdict t x (TariffOverCap i j) count f e = never cc

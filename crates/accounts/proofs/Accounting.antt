@@ -82,7 +82,7 @@ refused-marked t s a w v e same m = rw (m, ← same) e
 fault-by : (v : Verdict) (xs : List ℕ) → OneOf (2 ∷ 3 ∷ 4 ∷ 5 ∷ 6 ∷ 7 ∷ 8 ∷ []) (tagOf the-type v) →
     accountIn (Refusal notSound) ≡ accountIn (outcomeBy v xs)
 fault-by (Refused w) xs k = absurd (miss (2 ∷ 3 ∷ 4 ∷ 5 ∷ 6 ∷ 7 ∷ 8 ∷ []) 0 tt k)
-fault-by (Sound count) xs k = absurd (miss (2 ∷ 3 ∷ 4 ∷ 5 ∷ 6 ∷ 7 ∷ 8 ∷ []) 1 tt k)
+fault-by (Sound count worth) xs k = absurd (miss (2 ∷ 3 ∷ 4 ∷ 5 ∷ 6 ∷ 7 ∷ 8 ∷ []) 1 tt k)
 fault-by (TariffOverCap i j) xs k = refl
 fault-by (FreeOverCap i j) xs k = refl
 fault-by (WrongPay i j) xs k = refl

@@ -71,7 +71,7 @@ valuesIn (Numbers xs) = doneWith (length xs)
 -- The numbers xs if the verdict on the settlement is sound.
 abbrev pub outcomeBy : Verdict → List ℕ → Outcome
 outcomeBy (Refused why) xs = Refusal why
-outcomeBy (Sound count) xs = Numbers xs
+outcomeBy (Sound count worth) xs = Numbers xs
 outcomeBy (TariffOverCap i j) xs = Refusal notSound
 outcomeBy (FreeOverCap i j) xs = Refusal notSound
 outcomeBy (WrongPay i j) xs = Refusal notSound

@@ -86,7 +86,7 @@ pub fn account(ticket: &[u8], settlement: &[u8]) -> Account
     let verdict = marker::mark(ticket, settlement);
     match verdict {
         Verdict::Refused { why } => refused(why),
-        Verdict::Sound { count: _ } => account_sound(ticket, settlement),
+        Verdict::Sound { count: _, worth: _ } => account_sound(ticket, settlement),
         _ => refused(NOT_SOUND),
     }
 }

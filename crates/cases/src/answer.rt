@@ -8,6 +8,7 @@ use report::refused;
 use report::refused_bytes;
 use report::refused_numbers;
 use report::verdict;
+use report::worth;
 use verdicts::Verdict;
 
 // A reply, and what it left in the lent list or buffer.
@@ -53,4 +54,14 @@ pub(crate) fn judged(answer: Verdict) {
         is_free(deal),
         values.count,
     );
+}
+
+// The verdict by its number alone, with its worth.
+pub(crate) fn with_worth(answer: Verdict) {
+    let values = verdicts::values_of(answer);
+    if values.verdict == 0 {
+        refused(values.refusal);
+        return;
+    }
+    worth(values.verdict as usize, values.worth);
 }

@@ -6,6 +6,7 @@ mod settling;
 mod writing;
 
 use answer::judged;
+use answer::with_worth;
 use libc::STDIN_FILENO;
 use reading::read;
 use reading::unpack;
@@ -32,6 +33,7 @@ fn run(case: Case, list: &[u16], file: &[u8], other: &[u8]) -> bool {
         Operation::Read => read(file, case.growers, case.pilots, case.room),
         Operation::Write => write(list, case.growers, case.pilots, case.room),
         Operation::Mark => judged(marker::mark(file, other)),
+        Operation::Worth => with_worth(marker::mark(file, other)),
         Operation::Account => account(file, other),
         Operation::Settle => settle(file, case.room),
         Operation::Sheet => sheet(file, case.room),

@@ -1,8 +1,8 @@
 -- An account lent to C: it fits, nothing is lost of it, and its number tells the reply (`account-told`).
 -- Assumes nothing.
-use mathlib.Core.Path.{_≡_, refl, sym, ap, _∙_}
+use mathlib.Core.Path.{_≡_, refl, ap, _∙_}
 use mathlib.Core.List.{List}
-use Prim.Native.Nat.{ℕ, _+_, _*_, _≤_, _<_}
+use Prim.Native.Nat.{ℕ, _≤_, _<_}
 use native.Mathlib.Omega.{arith}
 use borrow.Author.Tests.{le-leb, lt-leb}
 use lib.ListN.{length, take}
@@ -22,7 +22,7 @@ use Rattle.marker.proofs.Marking.{marked-sound-exactly}
 use Rattle.marker.proofs.TicketLimits.{limits}
 use Rattle.market.specs.Market.{Ticket, Settlement}
 use Rattle.accounts.specs.declared.listing.Account.{Account}
-use Rattle.accounts.specs.Accounted.{places, accountNumbers, accountIn, outcomeBy, accountOutcome, accounted, ticketNumbers}
+use Rattle.accounts.specs.Accounted.{accountNumbers, accountIn, outcomeBy, accountOutcome, accounted, ticketNumbers}
 use Rattle.accounts.specs.Accounted.{settlementNumbers}
 use Rattle.accounts.proofs.ListLaws.{account-length}
 use Rattle.exchange_c.specs.Accounts.{outcomeIn, outcomeOf, Fitting}
@@ -62,7 +62,7 @@ account-outcome a t s e = ap outcomeOf e ∙ outcome-same (accountOutcome t s)
 -- At most 16 growers and 16 pilots have at most 48 numbers.
 by-verdict : (t : Ticket) (x : Settlement) (v : Verdict) → (verdictNumber v ≡ 1 → (t .growers ≤ 16) × (t .pilots ≤ 16)) → (xs : List ℕ) →
     outcomeBy v (accountNumbers t x) ≡ Numbers xs → length xs ≤ 48
-by-verdict t x (Sound k) few xs e =
+by-verdict t x (Sound k w) few xs e =
     let same : accountNumbers t x ≡ xs = cc in
     omega (arith, ap length same, account-length t x, few refl .0, few refl .1)
 by-verdict t x (Refused w) few xs e = never cc

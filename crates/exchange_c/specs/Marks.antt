@@ -1,4 +1,4 @@
--- The number that C gets for a verdict, and how its fields are read.
+-- The numbers that C gets for a verdict and for its worth, and how they are read.
 -- Assumes nothing.
 use Prim.Native.Nat.{ℕ, _+_, _*_, _/_, _%_, _^_}
 use mathlib.Core.Path.{_≡_}
@@ -18,3 +18,15 @@ pub record Tells (number : ℕ) (v : Values) : Type 0 where
   pub deal : number / 2 ^ 24 % 2 ^ 8 ≡ dealNumber (v .deal)
   pub count : number / 2 ^ 32 % 2 ^ 24 ≡ v .count
   pub refusal : number / 2 ^ 56 ≡ v .refusal
+
+-- The number that C gets for a worth: the worth as it is, refusal k as k times a number that is greater than every worth.
+abbrev pub worthEnd : ℕ
+worthEnd = 2 ^ 56
+
+abbrev pub worthNumber : Values → ℕ
+worthNumber v = v .worth + v .refusal * worthEnd
+
+-- Each part of such a number is one of the values.
+pub record TellsWorth (number : ℕ) (v : Values) : Type 0 where
+  pub worth : number % worthEnd ≡ v .worth
+  pub refusal : number / worthEnd ≡ v .refusal

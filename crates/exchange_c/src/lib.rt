@@ -12,9 +12,11 @@ ghost use Rattle.settler.specs.Settled.{Settled};
 ghost use Rattle.sheets.specs.Sheeted.{Sheeted};
 ghost use Rattle.accounts.specs.Accounted.{accountOutcome};
 ghost use Rattle.exchange_c.specs.Replies.{replyNumber, NumberOf};
-ghost use Rattle.exchange_c.specs.Marks.{markNumber};
+ghost use Rattle.exchange_c.specs.Marks.{markNumber, worthNumber};
 use lending::lend;
 use marks::mark_number;
+use marks::marked_values;
+use marks::worth_number;
 use replies::reply_number;
 
 // `reader::unpack`: the count of a ticket's numbers, or a refusal.
@@ -56,7 +58,15 @@ pub extern "C" fn exchange_sheet(ticket: &[u8], text: &mut [u8]) -> u32
 pub extern "C" fn exchange_mark(ticket: &[u8], settlement: &[u8]) -> u64
     ensures { λ r. ⌜ r ≡ markNumber (markedValues (now (ticket .entry)) (now (settlement .entry))) ⌝ }
 {
-    mark_number(verdicts::values_of(marker::mark(ticket, settlement)))
+    mark_number(marked_values(ticket, settlement))
+}
+
+// `marker::mark`: the worth that is given with the verdict on a settlement, or a refusal.
+#[no_mangle]
+pub extern "C" fn exchange_worth(ticket: &[u8], settlement: &[u8]) -> u64
+    ensures { λ r. ⌜ r ≡ worthNumber (markedValues (now (ticket .entry)) (now (settlement .entry))) ⌝ }
+{
+    worth_number(marked_values(ticket, settlement))
 }
 
 // `accounts::account`: how many numbers the account of a settlement lists, or a refusal; 10, the list is too short, comes last.

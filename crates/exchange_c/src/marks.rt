@@ -1,9 +1,10 @@
-// The number of a verdict: its values side by side.
+// The number of a verdict: its values side by side. The number of its worth.
 ghost use mathlib.Core.Path.{_≡_};
 ghost use Prim.Native.Nat.{_<_};
 ghost use Rattle.verdicts.specs.Values.{Bounded};
+ghost use Rattle.marker.specs.Marked.{markedValues};
 ghost use Rattle.marker.specs.Verdict.{dealNumber};
-ghost use Rattle.exchange_c.specs.Marks.{markNumber};
+ghost use Rattle.exchange_c.specs.Marks.{markNumber, worthNumber, worthEnd};
 use market::Deal;
 use verdicts::Values;
 
@@ -27,6 +28,13 @@ fn deal_number(deal: Deal) -> u64
     }
 }
 
+// The values of the verdict on a settlement of a ticket.
+pub(crate) fn marked_values(ticket: &[u8], settlement: &[u8]) -> Values
+    ensures { λ r. ⌜ r ≡ markedValues (now (ticket .entry)) (now (settlement .entry)) ⌝ }
+{
+    verdicts::values_of(marker::mark(ticket, settlement))
+}
+
 pub(crate) fn mark_number(values: Values) -> u64
     requires { ⌜ Bounded values ⌝ }
     ensures { λ r. ⌜ r ≡ markNumber values ⌝ }
@@ -36,4 +44,11 @@ pub(crate) fn mark_number(values: Values) -> u64
     let places = parties + deal_number(deal) * DEAL;
     let answer = values.verdict as u64 + values.refusal as u64 * REFUSAL;
     answer + places + values.count as u64 * COUNT
+}
+
+pub(crate) fn worth_number(values: Values) -> u64
+    requires { ⌜ values .worth < worthEnd ⌝ }
+    ensures { λ r. ⌜ r ≡ worthNumber values ⌝ }
+{
+    values.worth + values.refusal as u64 * REFUSAL
 }

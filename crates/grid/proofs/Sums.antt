@@ -120,6 +120,9 @@ pub square-add : (f g : ℕ → ℕ → ℕ) (k l : ℕ) → sumSquare (λ x y. 
 square-add f g k l =
     omega (arith, sum-same _ _ k (λ x h. sum-add (f x) (g x) l), sum-add (λ x. sum (f x) l) (λ x. sum (g x) l) k)
 
+pub cell-le-square : (f : ℕ → ℕ → ℕ) (k l x y : ℕ) → x < k → y < l → f x y ≤ sumSquare f k l
+cell-le-square f k l x y hx hy = omega (arith, term-le-sum (f x) l y hy, term-le-sum (λ v. sum (f v) l) k x hx)
+
 -- one changed cell changes the sum as much
 pub square-one : (f g : ℕ → ℕ → ℕ) (k l x y : ℕ) → x < k → y < l → ((v w : ℕ) → (v ≡ x → w ≡ y → ⊥) → g v w ≡ f v w) →
     sumSquare g k l + f x y ≡ sumSquare f k l + g x y

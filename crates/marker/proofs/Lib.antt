@@ -9,5 +9,6 @@ pub mod Views
 pub mod Verdicts
 pub mod SameVerdicts
 pub mod Marking
+pub mod BestWorth
 pub mod TicketLimits
 pub mod ValueBounds

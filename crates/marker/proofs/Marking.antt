@@ -9,6 +9,7 @@ use native.Mathlib.Omega.{arith}
 use lib.ListN.{length, take}
 use Rattle.grid.proofs.Cases.{never}
 use Rattle.market.specs.Market as market
+use Rattle.market.specs.Totals.{promisedWorth}
 use Rattle.market.specs.WithoutStandby.{NoStandby, SoundWithoutStandby}
 use Rattle.market.proofs.WithoutStandby.{sound-without-standby-iff}
 use Rattle.reader.specs.declared.Reply.{Reply}
@@ -45,8 +46,9 @@ ticket-sound : (t s : List ℕ) (o : Outcome) → unpacked t ≡ o → verdictNu
 ticket-sound t s (Refusal w) e v = never v
 ticket-sound t s (Numbers xs) e v = settlement-sound t s xs (settlementRead (growersOf xs) (pilotsOf xs) s) e refl v
 
--- a sound settlement has the verdict sound, with all deals counted
+-- a sound settlement has the verdict sound, with all deals counted and its worth
 pub sound-files-marked : (t s : List ℕ) (f : SoundFiles t s) → marked t s ≡ Sound (2 * (growersOf (f .numbers) * pilotsOf (f .numbers)))
+    (promisedWorth (ticketOf (f .numbers)) (settlementOf (f .answer) .hours))
 sound-files-marked t s f =
     rw (f .isTicket, f .isSettlement)
     (sound-exactly (ticketOf (f .numbers)) (settlementOf (f .answer)) (no-standby (f .numbers)) .1 (f .sound))

@@ -17,6 +17,7 @@ use Rattle.market.specs.declared.Deal.the-variants.{Tariff, Free}
 use Rattle.market.specs.Market.{Ticket, Settlement}
 use Rattle.market.specs.Tables.{ticketIn, settlementIn}
 use Rattle.market.specs.Same.{SameTicket, SameSettlement}
+use Rattle.market.proofs.PromisedWorth.{promised-same}
 use Rattle.market.proofs.Same.{same-grower, same-pilot, same-cap, same-earned-grower, same-earned-pilot}
 use Rattle.tables.specs.View.{growersOf, pilotsOf, ticketOf, settlementOf, HoldTicket, HoldSettlement}
 use Rattle.tables.proofs.Meaning.{ticket-same, settlement-same}
@@ -97,21 +98,21 @@ module _ {t t′ : Ticket} {x x′ : Settlement} (ticket : SameTicket t t′) (s
       same-deal-verdict : (count : ℕ) → dealVerdict t′ x′ count i j d ≡ dealVerdict t x count i j d
       same-deal-verdict count = ap (λ (b : Bool). cond b (Idle i j d count) (Blocks i j d count)) same-idle
 
-  same-deals : dealsJudged t′ x′ ≡ dealsJudged t x
-  same-deals = walk-same _ _ _ (2 * pairs t) _ _ _ _ (ap (λ (k : ℕ). 2 * k) same-pairs)
+  same-deals : {worth worth′ : ℕ} → worth′ ≡ worth → dealsJudged t′ x′ worth′ ≡ dealsJudged t x worth
+  same-deals e = walk-same _ _ _ (2 * pairs t) _ _ _ _ (ap (λ (k : ℕ). 2 * k) same-pairs)
       (λ p h. let w = within (t .growers) (t .pilots) p h in
       ap (λ (k : ℕ). byPlace (λ i j d. wrongDeal t′ x′ (dealAt d) i j) k p) (ticket .pilots)
       ∙ same-wrong-deal (p / 2 / t .pilots) (p / 2 % t .pilots) (w .grower) (w .pilot) (dealAt (p % 2)))
       (λ p h. let w = within (t .growers) (t .pilots) p h in
       ap (λ (k : ℕ). dealVerdict t′ x′ (p + 1) (p / 2 / k) (p / 2 % k) (dealAt (p % 2))) (ticket .pilots)
       ∙ same-deal-verdict (p / 2 / t .pilots) (p / 2 % t .pilots) (w .grower) (w .pilot) (dealAt (p % 2)) (p + 1))
-      (ap (λ (k : ℕ). Sound (2 * k)) same-pairs)
+      (ap₂ (λ (k w : ℕ). Sound (2 * k) w) same-pairs e)
 
-  same-hours : hoursJudged t′ x′ ≡ hoursJudged t x
-  same-hours = walk-same _ _ _ (t .growers) GrowerOverHours GrowerOverHours _ _ (ticket .growers)
+  same-hours : {worth worth′ : ℕ} → worth′ ≡ worth → hoursJudged t′ x′ worth′ ≡ hoursJudged t x worth
+  same-hours e = walk-same _ _ _ (t .growers) GrowerOverHours GrowerOverHours _ _ (ticket .growers)
       (λ i hi. ap₂ ltb (ticket .growerHours i hi) (same-grower ticket settlement i hi)) (λ i hi. refl)
       (walk-same _ _ _ (t .pilots) PilotOverHours PilotOverHours _ _ (ticket .pilots)
-      (λ j hj. ap₂ ltb (ticket .pilotHours j hj) (same-pilot ticket settlement j hj)) (λ j hj. refl) same-deals)
+      (λ j hj. ap₂ ltb (ticket .pilotHours j hj) (same-pilot ticket settlement j hj)) (λ j hj. refl) (same-deals e))
 
   pub same-judged : judged t′ x′ ≡ judged t x
   same-judged = walk-same _ _ _ (pairs t) _ _ _ _ same-pairs
@@ -121,7 +122,7 @@ module _ {t t′ : Ticket} {x x′ : Settlement} (ticket : SameTicket t t′) (s
       (λ p h. let w = inside (t .growers) (t .pilots) p h in
       ap (λ (k : ℕ). byPair (pairVerdict t′ x′) k p) (ticket .pilots)
       ∙ same-pair-verdict (p / t .pilots) (p % t .pilots) (w .grower) (w .pilot))
-      same-hours
+      (same-hours (promised-same ticket settlement))
 
 -- the verdict on the squares that hold what two lists say is the verdict on the lists
 pub judged-lists : (list answer : List ℕ) (n m : ℕ) → n ≡ growersOf list → m ≡ pilotsOf list → n ≤ 16 → m ≤ 16 →

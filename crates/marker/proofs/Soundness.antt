@@ -3,16 +3,17 @@
 use Prim.Native.Nat.{ℕ, _+_, _*_, _/_, _%_, _≤_, _<_}
 use mathlib.Core.Path.{_≡_, refl, sym, _∙_}
 use mathlib.Core.Bool.{Bool, true, false, cond, _&&_, _||_, true≢false, false≢true}
-use mathlib.Core.Logic.{_↔_, ⊎-elim}
+use mathlib.Core.Logic.{_↔_, ⊎-elim, inl, inr}
 use native.Mathlib.Omega.{arith}
 use lib.Dec.{ltb, eqb}
 use borrow.Author.Tests.{ltb-true, ltb-false, lt-ltb, le-ltb, eq-eqb, ne-eqb}
-use Rattle.grid.specs.First.{none}
+use Rattle.grid.specs.First.{none, first}
 use Rattle.grid.proofs.Cases.{eq-or-ne}
 use Rattle.market.specs.declared.Deal.{Deal}
 use Rattle.market.specs.declared.Deal.the-variants.{Tariff, Free}
 use Rattle.market.specs.Market as market
 use Rattle.market.specs.Market.{Ticket, Settlement, Cheapest, Feasible, SpareOfGrower, SpareOfPilot}
+use Rattle.market.specs.Totals.{promisedWorth}
 use Rattle.market.specs.WithoutStandby.{NoStandby}
 use Rattle.market.proofs.Gains.{always-welcome}
 use Rattle.market.proofs.WithoutStandby.{at-least-standby}
@@ -20,12 +21,12 @@ use Rattle.verdicts.specs.declared.Verdict.{Verdict}
 use Rattle.verdicts.specs.declared.Verdict.the-variants.{Sound, TariffOverCap, FreeOverCap, WrongPay, GrowerOverHours, PilotOverHours}
 use Rattle.verdicts.specs.declared.Verdict.the-variants.{Idle, Blocks}
 use Rattle.verdicts.specs.Tests.{below, bothBelow, payTest}
-use Rattle.verdicts.specs.Values.{verdictNumber}
+use Rattle.verdicts.specs.Values.{verdictNumber, FoundFeasible}
 use Rattle.verdicts.proofs.CheapestSpares.{below-iff, both-below-iff}
 use Rattle.marker.specs.Verdict.{wrongPair, wrongPay, freeOfGrower, freeOfPilot, growerOver, pilotOver}
 use Rattle.marker.specs.Verdict.{idle, blocks, wrongDeal, growerSpare, pilotSpare}
-use Rattle.marker.specs.Verdict.{byPair, dealAt, walk, pairVerdict, dealVerdictAt, pairs, pairFaultAt, dealFaultAt, dealsJudged}
-use Rattle.marker.specs.Verdict.{hoursJudged, judged, overCap}
+use Rattle.marker.specs.Verdict.{byPair, dealAt, walk, pairVerdict, dealVerdict, dealVerdictAt, pairs, pairFaultAt, dealFaultAt}
+use Rattle.marker.specs.Verdict.{dealsJudged, hoursJudged, judged, overCap}
 use Rattle.marker.proofs.Walks.{walk-passes, walk-passed, none-pairs, none-deals}
 use Rattle.marker.proofs.CheapestSpares.{cheapest-of-grower, cheapest-of-pilot}
 
@@ -185,54 +186,96 @@ module _ (t : Ticket) (x : Settlement) where
     },
   )
 
+  -- the worth that is given with a sound verdict
+  abbrev worth : ℕ
+  worth = promisedWorth t (x .hours)
+
   -- what follows the walk over growers
   abbrev pilotsJudged : Verdict
-  pilotsJudged = walk (pilotOver t x) (t .pilots) PilotOverHours (dealsJudged t x)
+  pilotsJudged = walk (pilotOver t x) (t .pilots) PilotOverHours (dealsJudged t x worth)
+
+  -- without a fault before it, the last walk has the verdict
+  faultless-judged : Faultless → judged t x ≡ dealsJudged t x worth
+  faultless-judged f =
+      walk-passes (pairFaultAt t x) (pairs t) (byPair (pairVerdict t x) (t .pilots)) (hoursJudged t x worth)
+      (none-pairs (wrongPair t x) (t .growers) (t .pilots) .1 (f .pair))
+      ∙ walk-passes (growerOver t x) (t .growers) GrowerOverHours pilotsJudged (f .grower)
+      ∙ walk-passes (pilotOver t x) (t .pilots) PilotOverHours (dealsJudged t x worth) (f .pilot)
 
   -- then the verdict is sound, with all deals looked at; and only then
-  passes : Passed → judged t x ≡ Sound (2 * pairs t)
+  passes : Passed → judged t x ≡ Sound (2 * pairs t) (promisedWorth t (x .hours))
   passes p =
-      walk-passes (pairFaultAt t x) (pairs t) (byPair (pairVerdict t x) (t .pilots)) (hoursJudged t x)
-      (none-pairs (wrongPair t x) (t .growers) (t .pilots) .1 (p .faultless .pair))
-      ∙ walk-passes (growerOver t x) (t .growers) GrowerOverHours pilotsJudged (p .faultless .grower)
-      ∙ walk-passes (pilotOver t x) (t .pilots) PilotOverHours (dealsJudged t x) (p .faultless .pilot)
-      ∙ walk-passes (dealFaultAt t x) (2 * pairs t) (dealVerdictAt t x) (Sound (2 * pairs t))
+      faultless-judged (p .faultless)
+      ∙ walk-passes (dealFaultAt t x) (2 * pairs t) (dealVerdictAt t x) (Sound (2 * pairs t) worth)
       (none-deals (wrongDeal t x) (t .growers) (t .pilots) .1 (p .deal))
 
-  pair-fails : (b c : Bool) (i j : ℕ) → verdictNumber (cond b (TariffOverCap i j) (cond c (FreeOverCap i j) (WrongPay i j))) ≡ 1 → ⊥
-  pair-fails true c i j h = omega arith
-  pair-fails false true i j h = omega arith
-  pair-fails false false i j h = omega arith
+  -- faults of pairs and of hours are not feasible
+  early : (v : Verdict) → 2 ≤ verdictNumber v → verdictNumber v ≤ 6 → FoundFeasible v → ⊥
+  early v a b f = ⊎-elim (λ e. omega arith) (λ g. ⊎-elim (λ e. omega arith) (λ e. omega arith) g) f
+
+  pair-fails : (b c : Bool) (i j : ℕ) → FoundFeasible (cond b (TariffOverCap i j) (cond c (FreeOverCap i j) (WrongPay i j))) → ⊥
+  pair-fails true c i j h = early (TariffOverCap i j) (omega arith) (omega arith) h
+  pair-fails false true i j h = early (FreeOverCap i j) (omega arith) (omega arith) h
+  pair-fails false false i j h = early (WrongPay i j) (omega arith) (omega arith) h
 
   deal-fails : (b : Bool) (i j count : ℕ) (d : Deal) → verdictNumber (cond b (Idle i j d count) (Blocks i j d count)) ≡ 1 → ⊥
   deal-fails true i j count d h = omega arith
   deal-fails false i j count d h = omega arith
 
-  passed : verdictNumber (judged t x) ≡ 1 → Passed
-  passed h =
-      let a = walk-passed (pairFaultAt t x) (pairs t) (byPair (pairVerdict t x) (t .pilots)) (hoursJudged t x)
-      (λ p. let i = p / t .pilots in let j = p % t .pilots in pair-fails (overCap t x Tariff i j) (overCap t x Free i j) i j) h in
-      let b = walk-passed (growerOver t x) (t .growers) GrowerOverHours pilotsJudged (λ p z. omega arith) (a .1) in
-      let c = walk-passed (pilotOver t x) (t .pilots) PilotOverHours (dealsJudged t x) (λ p z. omega arith) (b .1) in
-      let d = walk-passed (dealFaultAt t x) (2 * pairs t) (dealVerdictAt t x) (Sound (2 * pairs t))
-      (λ p. let i = p / 2 / t .pilots in let j = p / 2 % t .pilots in let e = dealAt (p % 2) in
-      deal-fails (idle t x e i j) i j (p + 1) e) (c .1) in
-      record {
-        faultless = record {
+  -- a verdict that only a feasible settlement has is that of the last walk
+  last-walk : (P : Verdict → Type 0) → ((v : Verdict) → P v → FoundFeasible v) → P (judged t x) → Faultless × P (dealsJudged t x worth)
+  last-walk P late h =
+      let a = walk-passed (pairFaultAt t x) (pairs t) (byPair (pairVerdict t x) (t .pilots)) (hoursJudged t x worth) P
+      (λ p z. let i = p / t .pilots in let j = p % t .pilots in
+      pair-fails (overCap t x Tariff i j) (overCap t x Free i j) i j (late _ z)) h in
+      let b = walk-passed (growerOver t x) (t .growers) GrowerOverHours pilotsJudged P
+      (λ i z. early (GrowerOverHours i) (omega arith) (omega arith) (late _ z)) (a .1) in
+      let c = walk-passed (pilotOver t x) (t .pilots) PilotOverHours (dealsJudged t x worth) P
+      (λ j z. early (PilotOverHours j) (omega arith) (omega arith) (late _ z)) (b .1) in (
+        record {
           pair = none-pairs (wrongPair t x) (t .growers) (t .pilots) .0 (a .0);
           grower = b .0;
           pilot = c .0;
-        };
-        deal = none-deals (wrongDeal t x) (t .growers) (t .pilots) .0 (d .0);
-      }
+        },
+        c .1,
+      )
+
+  passed : verdictNumber (judged t x) ≡ 1 → Passed
+  passed h =
+      let l = last-walk (λ v. verdictNumber v ≡ 1) (λ v e. inl e) h in
+      let d = walk-passed (dealFaultAt t x) (2 * pairs t) (dealVerdictAt t x) (Sound (2 * pairs t) worth) (λ v. verdictNumber v ≡ 1)
+      (λ p. let i = p / 2 / t .pilots in let j = p / 2 % t .pilots in let e = dealAt (p % 2) in
+      deal-fails (idle t x e i j) i j (p + 1) e) (l .1) in
+      record { faultless = l .0; deal = none-deals (wrongDeal t x) (t .growers) (t .pilots) .0 (d .0) }
+
+  deal-feasible : (b : Bool) (i j count : ℕ) (d : Deal) → FoundFeasible (cond b (Idle i j d count) (Blocks i j d count))
+  deal-feasible true i j count d = inr (inl refl)
+  deal-feasible false i j count d = inr (inr refl)
+
+  either-feasible : (b : Bool) (v w : Verdict) → FoundFeasible v → FoundFeasible w → FoundFeasible (cond b v w)
+  either-feasible true v w f g = f
+  either-feasible false v w f g = g
+
+  -- The verdict is one on a feasible settlement exactly when the settlement is feasible.
+  pub feasible-exactly : FoundFeasible (judged t x) ↔ Feasible t x
+  feasible-exactly = (
+    λ f. feasible-iff .0 (last-walk FoundFeasible (λ v z. z) f .0),
+    λ f. let p = first (dealFaultAt t x) (2 * pairs t) in
+        let i = p / 2 / t .pilots in
+        let j = p / 2 % t .pilots in
+        let d = dealAt (p % 2) in
+        rw (faultless-judged (feasible-iff .1 f))
+        (either-feasible (ltb p (2 * pairs t)) (dealVerdict t x (p + 1) i j d) (Sound (2 * pairs t) worth)
+        (deal-feasible (idle t x d i j) i j (p + 1) d) (inl refl)),
+  )
 
   -- The verdict is sound exactly when the settlement is.
-  pub sound-exactly : NoStandby t → (judged t x ≡ Sound (2 * pairs t)) ↔ market.Sound t x
+  pub sound-exactly : NoStandby t → (judged t x ≡ Sound (2 * pairs t) (promisedWorth t (x .hours))) ↔ market.Sound t x
   sound-exactly free = (λ e. passed-iff free .0 (passed (rw e)), λ s. passes (passed-iff free .1 s))
 
-  -- A sound verdict has looked at all deals.
-  pub sound-count : (count : ℕ) → judged t x ≡ Sound count → count ≡ 2 * pairs t
-  sound-count count e = let z = passes (passed (rw e)) in cc
+  -- A sound verdict has looked at all deals, and gives the settlement's worth.
+  pub sound-values : (count given : ℕ) → judged t x ≡ Sound count given → (count ≡ 2 * pairs t) × (given ≡ promisedWorth t (x .hours))
+  sound-values count given e = let z = passes (passed (rw e)) in (cc, cc)
 
   -- The same by the verdict's number.
   pub sound-number : NoStandby t → (verdictNumber (judged t x) ≡ 1) ↔ market.Sound t x

@@ -1,30 +1,38 @@
--- The values of every verdict on files are small: `marked-bounded`.
+-- The values of every verdict on files are small: `marked-bounded`, `worth-bounded`.
 -- Assumes nothing.
 use Prim.Native.Nat.{ℕ, _+_, _*_, _/_, _%_, _≤_, _<_}
-use mathlib.Core.Path.{_≡_, refl}
+use mathlib.Core.Path.{_≡_, refl, ap}
 use mathlib.Core.Bool.{Bool, true, false, cond}
 use mathlib.Core.Logic.{⊎-elim}
 use mathlib.Core.List.{List}
+use native.Mathlib.Nat.{mul-le-mul}
 use native.Mathlib.Omega.{arith}
 use borrow.Author.Tests.{lt-ltb, le-ltb}
 use Rattle.grid.specs.First.{first}
-use Rattle.grid.proofs.Cases.{lt-or-le}
+use Rattle.grid.specs.Sum.{sum}
+use Rattle.grid.proofs.Cases.{lt-or-le, eq-or-ne}
 use Rattle.grid.proofs.Places.{inside, within}
+use Rattle.grid.proofs.Sums.{sum-bound}
 use Rattle.numbers.proofs.Products.{prod-small}
 use Rattle.market.specs.declared.Deal.{Deal}
 use Rattle.market.specs.declared.Deal.the-variants.{Tariff, Free}
-use Rattle.market.specs.Market.{Ticket, Settlement}
+use Rattle.market.specs.Market.{Ticket, Settlement, Feasible}
+use Rattle.market.specs.Totals.{gainTotal, promisedWorth}
+use Rattle.market.proofs.BestTotal.{worth-is-gain}
+use Rattle.market.proofs.PromisedWorth.{promised-at-most}
 use Rattle.reader.specs.Walk.{Outcome, Refusal, Numbers}
 use Rattle.reader.specs.Answer.{unpacked, settlementRead}
 use Rattle.tables.specs.View.{growersOf, pilotsOf, ticketOf, settlementOf}
 use Rattle.verdicts.specs.declared.Verdict.{Verdict}
 use Rattle.verdicts.specs.declared.Verdict.the-variants.{Refused, Sound, TariffOverCap, FreeOverCap, WrongPay}
 use Rattle.verdicts.specs.declared.Verdict.the-variants.{GrowerOverHours, PilotOverHours, Idle, Blocks}
-use Rattle.verdicts.specs.Values.{valuesOf, Bounded}
+use Rattle.verdicts.specs.Values.{valuesOf, verdictNumber, verdictWorth, Bounded, mostWorth}
 use Rattle.marker.specs.Verdict.{walk, byPair, pairs, dealAt, overCap, idle, growerOver, pilotOver, pairVerdict, pairFaultAt}
 use Rattle.marker.specs.Verdict.{dealVerdict, dealFaultAt, dealVerdictAt, dealsJudged, hoursJudged, judged}
-use Rattle.marker.specs.Marked.{settlementMarked, ticketMarked, markedValues}
-use Rattle.marker.proofs.Marking.{few-parties}
+use Rattle.marker.specs.Marked.{settlementMarked, ticketMarked, marked, markedValues, SoundFiles}
+use Rattle.marker.proofs.Marking.{few-parties, marked-sound-exactly, sound-files-marked}
+use Rattle.marker.proofs.BestWorth.{worth-only-if-sound}
+use Rattle.marker.proofs.TicketLimits.{Limits, limits}
 
 abbrev BoundedOf : Verdict → Type 0
 BoundedOf v = Bounded (valuesOf v)
@@ -61,25 +69,25 @@ module _ (t : Ticket) (x : Settlement) (few-growers : t .growers ≤ 16) (few-pi
   few-deals : 2 * pairs t ≤ 512
   few-deals = omega (arith, prod-small (t .growers) (t .pilots) few-growers few-pilots)
 
-  deals-bounded : BoundedOf (dealsJudged t x)
-  deals-bounded =
-      walk-bounded (dealFaultAt t x) (2 * pairs t) (dealVerdictAt t x) (Sound (2 * pairs t))
+  deals-bounded : (worth : ℕ) → BoundedOf (dealsJudged t x worth)
+  deals-bounded worth =
+      walk-bounded (dealFaultAt t x) (2 * pairs t) (dealVerdictAt t x) (Sound (2 * pairs t) worth)
       (λ p h. let i = within (t .growers) (t .pilots) p h in
       deal-bounded (p + 1) (p / 2 / t .pilots) (p / 2 % t .pilots) (dealAt (p % 2)) (i .grower) (i .pilot) (omega (arith, few-deals)))
       (record { verdict = omega arith; grower = omega arith; pilot = omega arith; count = few-deals })
 
-  hours-bounded : BoundedOf (hoursJudged t x)
-  hours-bounded =
-      walk-bounded (growerOver t x) (t .growers) GrowerOverHours (walk (pilotOver t x) (t .pilots) PilotOverHours (dealsJudged t x))
+  hours-bounded : (worth : ℕ) → BoundedOf (hoursJudged t x worth)
+  hours-bounded worth =
+      walk-bounded (growerOver t x) (t .growers) GrowerOverHours (walk (pilotOver t x) (t .pilots) PilotOverHours (dealsJudged t x worth))
       (λ i h. record { verdict = omega arith; grower = omega arith; pilot = omega arith; count = omega arith })
-      (walk-bounded (pilotOver t x) (t .pilots) PilotOverHours (dealsJudged t x)
-      (λ j h. record { verdict = omega arith; grower = omega arith; pilot = omega arith; count = omega arith }) deals-bounded)
+      (walk-bounded (pilotOver t x) (t .pilots) PilotOverHours (dealsJudged t x worth)
+      (λ j h. record { verdict = omega arith; grower = omega arith; pilot = omega arith; count = omega arith }) (deals-bounded worth))
 
   judged-bounded : BoundedOf (judged t x)
   judged-bounded =
-      walk-bounded (pairFaultAt t x) (pairs t) (byPair (pairVerdict t x) (t .pilots)) (hoursJudged t x)
+      walk-bounded (pairFaultAt t x) (pairs t) (byPair (pairVerdict t x) (t .pilots)) (hoursJudged t x (promisedWorth t (x .hours)))
       (λ p h. let i = inside (t .growers) (t .pilots) p h in pair-bounded (p / t .pilots) (p % t .pilots) (i .grower) (i .pilot))
-      hours-bounded
+      (hours-bounded (promisedWorth t (x .hours)))
 
 settlement-bounded : (xs : List ℕ) (o : Outcome) → growersOf xs ≤ 16 → pilotsOf xs ≤ 16 → BoundedOf (settlementMarked xs o)
 settlement-bounded xs (Refusal w) n m = refused-bounded w
@@ -92,3 +100,38 @@ ticket-bounded t s (Numbers xs) e =
 
 pub marked-bounded : (t s : List ℕ) → Bounded (markedValues t s)
 marked-bounded t s = ticket-bounded t s (unpacked t) refl
+
+-- The worth. It has a bound of its own, since only a feasible settlement's is small.
+
+module _ (t : Ticket) (x : Settlement) (l : Limits t) (f : Feasible t x) where
+  abbrev gain : ℕ → ℕ → ℕ
+  gain i j = x .hours Free i j * t .jointGain i j
+
+  pair-small : (i j : ℕ) → i < t .growers → j < t .pilots → gain i j ≤ 60 * 500
+  pair-small i j hi hj =
+      let few : x .hours Free i j ≤ 60 = omega (arith, f .fits .deal Free i j hi hj, l .freeCap i j hi hj) in
+      mul-le-mul few (l .jointGain i j hi hj)
+
+  grower-small : (i : ℕ) → i < t .growers → sum (gain i) (t .pilots) ≤ 480000
+  grower-small i hi = omega (arith, l .pilots, sum-bound (gain i) 30000 (t .pilots) (λ j hj. pair-small i j hi hj))
+
+  gain-small : gainTotal t (x .hours) ≤ mostWorth
+  gain-small = omega (arith, l .growers, sum-bound (λ i. sum (gain i) (t .pilots)) 480000 (t .growers) grower-small)
+
+sound-worth : (t s : List ℕ) → SoundFiles t s → verdictWorth (marked t s) ≤ mostWorth
+sound-worth t s f =
+    let ticket = ticketOf (f .numbers) in
+    let x = settlementOf (f .answer) in
+    omega (
+      arith,
+      ap verdictWorth (sound-files-marked t s f),
+      promised-at-most ticket (x .hours),
+      worth-is-gain ticket (λ i h. refl) (λ j h. refl) (x .hours),
+      gain-small ticket x (limits t (f .numbers) (f .isTicket)) (f .sound .feasible),
+    )
+
+pub worth-bounded : (t s : List ℕ) → verdictWorth (marked t s) ≤ mostWorth
+worth-bounded t s = ⊎-elim
+    (λ one. sound-worth t s (marked-sound-exactly t s .0 one))
+    (λ unsound. omega (arith, worth-only-if-sound (marked t s) unsound))
+    (eq-or-ne (verdictNumber (marked t s)) 1)

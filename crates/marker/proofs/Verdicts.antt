@@ -76,25 +76,26 @@ module _ (t : Ticket) (x : Settlement) where
   pair-found i j hj r f = let e = cell-place (t .pilots) i j hj in rw (e .0, e .1) f
 
   -- growers, then pilots
-  pub grower-judged : (i : ℕ) → i ≡ first (growerOver t x) (t .growers) → i < t .growers → GrowerOverHours i ≡ hoursJudged t x
-  grower-judged i e h = walk-found (growerOver t x) (t .growers) GrowerOverHours _ i e h
+  pub grower-judged : (worth i : ℕ) → i ≡ first (growerOver t x) (t .growers) → i < t .growers → GrowerOverHours i ≡ hoursJudged t x worth
+  grower-judged worth i e h = walk-found (growerOver t x) (t .growers) GrowerOverHours _ i e h
 
-  module _ (i : ℕ) (ei : i ≡ first (growerOver t x) (t .growers)) (hi : t .growers ≤ i) (j : ℕ)
+  module _ (worth i : ℕ) (ei : i ≡ first (growerOver t x) (t .growers)) (hi : t .growers ≤ i) (j : ℕ)
       (ej : j ≡ first (pilotOver t x) (t .pilots)) where
-    pub pilot-judged : j < t .pilots → PilotOverHours j ≡ hoursJudged t x
+    pub pilot-judged : j < t .pilots → PilotOverHours j ≡ hoursJudged t x worth
     pilot-judged h =
-        walk-found (pilotOver t x) (t .pilots) PilotOverHours (dealsJudged t x) j ej h
+        walk-found (pilotOver t x) (t .pilots) PilotOverHours (dealsJudged t x worth) j ej h
         ∙ walk-on (growerOver t x) (t .growers) GrowerOverHours _ i ei hi
 
-    pub hours-judged : t .pilots ≤ j → dealsJudged t x ≡ hoursJudged t x
+    pub hours-judged : t .pilots ≤ j → dealsJudged t x worth ≡ hoursJudged t x worth
     hours-judged h =
-        walk-on (pilotOver t x) (t .pilots) PilotOverHours (dealsJudged t x) j ej h
+        walk-on (pilotOver t x) (t .pilots) PilotOverHours (dealsJudged t x worth) j ej h
         ∙ walk-on (growerOver t x) (t .growers) GrowerOverHours _ i ei hi
 
   -- deals
-  pub deals-judged : none (dealFaultAt t x) (2 * pairs t) → (v : Verdict) → v ≡ Sound (2 * pairs t) → v ≡ dealsJudged t x
-  deals-judged all v e =
-      e ∙ walk-on (dealFaultAt t x) (2 * pairs t) (dealVerdictAt t x) (Sound (2 * pairs t)) (2 * pairs t)
+  pub deals-judged : (worth : ℕ) → none (dealFaultAt t x) (2 * pairs t) → (v : Verdict) → v ≡ Sound (2 * pairs t) worth →
+      v ≡ dealsJudged t x worth
+  deals-judged worth all v e =
+      e ∙ walk-on (dealFaultAt t x) (2 * pairs t) (dealVerdictAt t x) (Sound (2 * pairs t) worth) (2 * pairs t)
       (sym (first-is _ _ _ (omega arith) all (λ h. absurd (omega arith)))) (omega arith)
 
   module _ (i j : ℕ) (hi : i < t .growers) (hj : j < t .pilots) (d : Deal) where
@@ -109,11 +110,11 @@ module _ (t : Ticket) (x : Settlement) where
     module _ (before : none (dealFaultAt t x) place) (r : Found)
         (f : r ≡ foundIf (wrongDeal t x d i j) (dealVerdict t x (place + 1) i j d)) where
       -- it is at fault, or passed by
-      pub deal-judged : (v : Verdict) → r ≡ Fault v → v ≡ dealsJudged t x
-      deal-judged v e =
+      pub deal-judged : (worth : ℕ) (v : Verdict) → r ≡ Fault v → v ≡ dealsJudged t x worth
+      deal-judged worth v e =
           let h = found-holds _ _ v r (deal-found r f) e in
           let below : place < 2 * pairs t = omega (arith, row-within i (t .growers) (t .pilots) hi, number-small d) in
-          h .1 ∙ walk-found (dealFaultAt t x) (2 * pairs t) (dealVerdictAt t x) (Sound (2 * pairs t)) place
+          h .1 ∙ walk-found (dealFaultAt t x) (2 * pairs t) (dealVerdictAt t x) (Sound (2 * pairs t) worth) place
           (sym (first-is _ _ place (omega arith) before (λ _. h .0))) below
 
       pub deal-passed : r ≡ Nothing → none (dealFaultAt t x) (place + 1)

@@ -13,7 +13,6 @@ use Rattle.grid.proofs.Places.{inside, within, cell-place, at-place, row-within
 use Rattle.market.specs.declared.Deal.{Deal}
 use Rattle.market.specs.declared.Deal.the-variants.{Tariff, Free}
 use Rattle.verdicts.specs.declared.Verdict.{Verdict}
-use Rattle.verdicts.specs.Values.{verdictNumber}
 use Rattle.marker.specs.Verdict.{byPair, dealAt, walk}
 
 -- tests that agree have the same first place
@@ -34,10 +33,9 @@ module _ (test : ℕ → Bool) (k : ℕ) (found : ℕ → Verdict) (after : Verd
   pub walk-passes : none test k → walk test k found after ≡ after
   walk-passes n = sym (walk-on k (sym (first-is test k k (omega arith) n (λ h. absurd (omega arith)))) (omega arith))
 
-  -- a walk whose verdict is sound, though no place that it finds is
-  pub walk-passed : ((p : ℕ) → verdictNumber (found p) ≡ 1 → ⊥) → verdictNumber (walk test k found after) ≡ 1 →
-      none test k × (verdictNumber after ≡ 1)
-  walk-passed never e =
+  -- a walk whose verdict is one that no place which it finds has
+  pub walk-passed : (P : Verdict → Type 0) → ((p : ℕ) → P (found p) → ⊥) → P (walk test k found after) → none test k × P after
+  walk-passed P never e =
       let s = first-first test k in
       let p = first test k in
       ⊎-elim

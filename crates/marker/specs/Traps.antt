@@ -12,6 +12,7 @@ use Rattle.market.specs.declared.Deal.{Deal}
 use Rattle.market.specs.declared.Deal.the-variants.{Tariff, Free}
 use Rattle.market.specs.Market.{Ticket, Settlement, cap, earnedByGrower, earnedByPilot}
 use Rattle.tables.specs.View.{growersOf, pilotsOf, ticketOf, settlementOf}
+use Rattle.market.specs.Totals.{promisedWorth}
 use Rattle.verdicts.specs.declared.Spare.{Spare}
 use Rattle.verdicts.specs.declared.Spare.the-variants.{Nothing, Worth}
 use Rattle.verdicts.specs.declared.Verdict.{Verdict}
@@ -90,7 +91,8 @@ module _ (r : Rules) where
         walk (byPair wrongPair (t .pilots)) (pairs t) (byPair pairVerdict (t .pilots))
         (walk (growerOver t x) (t .growers) GrowerOverHours
         (walk (pilotOver t x) (t .pilots) PilotOverHours
-        (walk (byPlace (λ i j d. wrongDeal (dealAt d) i j) (t .pilots)) (2 * pairs t) (dealVerdictAt t x) (Sound (2 * pairs t)))))
+        (walk (byPlace (λ i j d. wrongDeal (dealAt d) i j) (t .pilots)) (2 * pairs t) (dealVerdictAt t x)
+        (Sound (2 * pairs t) (promisedWorth t (x .hours))))))
 
   abbrev pub settlementMarkedBy : List ℕ → Outcome → Verdict
   settlementMarkedBy xs (Refusal w) = Refused w

@@ -8,6 +8,7 @@ use Rattle.grid.specs.First.{first, byPlace}
 use Rattle.market.specs.declared.Deal.{Deal}
 use Rattle.market.specs.declared.Deal.the-variants.{Tariff, Free}
 use Rattle.market.specs.Market.{Ticket, Settlement, cap, usedByGrower, usedByPilot, earnedByGrower, earnedByPilot}
+use Rattle.market.specs.Totals.{promisedWorth}
 use Rattle.verdicts.specs.declared.Spare.{Spare}
 use Rattle.verdicts.specs.declared.Verdict.{Verdict}
 use Rattle.verdicts.specs.declared.Verdict.the-variants.{Sound, TariffOverCap, FreeOverCap, WrongPay}
@@ -97,14 +98,14 @@ module _ (t : Ticket) (x : Settlement) where
   abbrev pub dealVerdictAt : ℕ → Verdict
   dealVerdictAt p = dealVerdict (p + 1) (p / 2 / t .pilots) (p / 2 % t .pilots) (dealAt (p % 2))
 
-  -- the last walk: deals pair by pair, tariff before free
-  abbrev pub dealsJudged : Verdict
-  dealsJudged = walk dealFaultAt (2 * pairs t) dealVerdictAt (Sound (2 * pairs t))
+  -- the last walk: deals pair by pair, tariff before free; a sound settlement has this worth
+  abbrev pub dealsJudged : ℕ → Verdict
+  dealsJudged worth = walk dealFaultAt (2 * pairs t) dealVerdictAt (Sound (2 * pairs t) worth)
 
   -- growers over their hours, then pilots
-  abbrev pub hoursJudged : Verdict
-  hoursJudged = walk growerOver (t .growers) GrowerOverHours (walk pilotOver (t .pilots) PilotOverHours dealsJudged)
+  abbrev pub hoursJudged : ℕ → Verdict
+  hoursJudged worth = walk growerOver (t .growers) GrowerOverHours (walk pilotOver (t .pilots) PilotOverHours (dealsJudged worth))
 
   -- all four walks: pairs first
   abbrev pub judged : Verdict
-  judged = walk pairFaultAt (pairs t) (byPair pairVerdict (t .pilots)) hoursJudged
+  judged = walk pairFaultAt (pairs t) (byPair pairVerdict (t .pilots)) (hoursJudged (promisedWorth t (x .hours)))

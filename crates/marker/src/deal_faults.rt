@@ -96,7 +96,7 @@ fn deal_fault(
     )
 }
 
-// The last walk: the first deal that is idle or blocks, growers, pilots and deals in their order; or else sound.
+// The last walk: the first deal that is idle or blocks, growers, pilots and deals in their order; or else sound, with its worth.
 pub(crate) fn judge_deals(
     n: usize,
     m: usize,
@@ -105,14 +105,14 @@ pub(crate) fn judge_deals(
     tariff_cap: [[u16; 16]; 16],
     free_cap: [[u16; 16]; 16],
     joint_gain: [[u16; 16]; 16],
+    worth: u64,
 ) -> Verdict
     requires { ⌜ (n ≤ 16) × (m ≤ 16) ⌝ }
     ensures { λ r. ⌜ ((o : Origin n m growers pilots «tariff_cap» «free_cap» «joint_gain») →
-        r ≡ dealsJudged (ticketFrom o) (settlementFrom o)) ⌝ }
+        r ≡ dealsJudged (ticketFrom o) (settlementFrom o) worth) ⌝ }
 {
-    let mut verdict = Verdict::Sound {
-        count: 2 * numbers::pairs(n, m),
-    };
+    let count = 2 * numbers::pairs(n, m);
+    let mut verdict = Verdict::Sound { count, worth };
     'search: for i in 0..n {
         let grower = growers[i];
         for j in 0..m {

@@ -13,6 +13,7 @@ use crate::parties::all_pilots;
 use crate::parties::first_over;
 use tables::Quantity;
 use tables::square;
+use totals::promised_worth;
 use verdicts::Found;
 use verdicts::Verdict;
 
@@ -25,10 +26,11 @@ fn judge_parties(
     tariff_cap: [[u16; 16]; 16],
     free_cap: [[u16; 16]; 16],
     joint_gain: [[u16; 16]; 16],
+    worth: u64,
 ) -> Verdict
     requires { ⌜ (n ≤ 16) × (m ≤ 16) ⌝ }
     ensures { λ r. ⌜ ((o : Origin n m growers pilots «tariff_cap» «free_cap» «joint_gain») →
-        r ≡ hoursJudged (ticketFrom o) (settlementFrom o)) ⌝ }
+        r ≡ hoursJudged (ticketFrom o) (settlementFrom o) worth) ⌝ }
 {
     let grower = first_over(growers, n);
     if grower < n {
@@ -38,7 +40,16 @@ fn judge_parties(
     if pilot < m {
         return Verdict::PilotOverHours { pilot: pilot };
     }
-    judge_deals(n, m, growers, pilots, tariff_cap, free_cap, joint_gain)
+    judge_deals(
+        n,
+        m,
+        growers,
+        pilots,
+        tariff_cap,
+        free_cap,
+        joint_gain,
+        worth,
+    )
 }
 
 // Pairs: verdicts 2 to 4; then hours and deals.
@@ -92,7 +103,17 @@ fn judge_squares(
         tariff_pay,
         pay,
     );
-    judge_parties(n, m, growers, pilots, tariff_cap, free_cap, joint_gain)
+    let worth = promised_worth(n, m, tariff_cap, free_deal_hours, joint_gain);
+    judge_parties(
+        n,
+        m,
+        growers,
+        pilots,
+        tariff_cap,
+        free_cap,
+        joint_gain,
+        worth,
+    )
 }
 
 // The same of lists: each quantity of the pairs in a square of its own.

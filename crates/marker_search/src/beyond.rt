@@ -1,7 +1,9 @@
 // Settlements beyond their ticket's limits.
 use super::compare::judge;
+use plain::Greatest;
 use plain::first_settlement;
 use plain::limit;
+use plain::settlement_length;
 
 fn one_more(x: u8) -> u8 {
     if x < 127 { x + 1 } else { x }
@@ -10,7 +12,7 @@ fn one_more(x: u8) -> u8 {
 // All numbers at their limits, but one above them at the places from `from` to before `end`.
 fn settlement(ticket: &[u8], from: usize, end: usize) -> [u8; 15] {
     let mut all = first_settlement(ticket);
-    for place in 3..9usize {
+    for place in 3..settlement_length(ticket) {
         let most = limit(ticket, place);
         all[place] = if from <= place && place < end {
             one_more(most)
@@ -21,10 +23,13 @@ fn settlement(ticket: &[u8], from: usize, end: usize) -> [u8; 15] {
     all
 }
 
-// Twelve: each number one above its limit, alone and with all that follow it.
-pub(crate) fn limits(ticket: &[u8], tally: &mut [usize; 13]) {
-    for place in 3..9usize {
-        judge(ticket, &settlement(ticket, place, place + 1), &mut *tally);
-        judge(ticket, &settlement(ticket, place, 9), &mut *tally);
+// Each number one above its limit, alone and with all that follow it.
+pub(crate) fn limits(ticket: &[u8], greatest: Greatest, tally: &mut [usize; 17]) {
+    let length = settlement_length(ticket);
+    for place in 3..length {
+        let alone = settlement(ticket, place, place + 1);
+        judge(ticket, &alone, greatest, &mut *tally);
+        let with_later = settlement(ticket, place, length);
+        judge(ticket, &with_later, greatest, &mut *tally);
     }
 }

@@ -13,5 +13,6 @@ pub mod Rounding
 pub mod End
 pub mod Existence
 pub mod BestTotal
+pub mod PromisedWorth
 pub mod OneGain
 pub mod AccountTotals

@@ -2,6 +2,8 @@
 -- Assumes nothing.
 use Prim.Native.Nat.{ℕ, _+_, _*_, _-_, min, _<_}
 use mathlib.Core.Path.{_≡_}
+use mathlib.Core.Bool.{cond}
+use lib.Dec.{ltb}
 use Rattle.grid.specs.Sum.{sum, sumSquare}
 use Rattle.market.specs.declared.Deal.the-variants.{Free}
 use Rattle.market.specs.Market.{DealHours, Ticket, usedByGrower, usedByPilot}
@@ -9,6 +11,10 @@ use Rattle.market.specs.Market.{DealHours, Ticket, usedByGrower, usedByP
 module _ (t : Ticket) where
   abbrev pub NoTariffDeals : Type 0
   NoTariffDeals = (i j : ℕ) → i < t .growers → j < t .pilots → t .tariffCap i j ≡ 0
+
+  -- all tariff caps together, 0 exactly where there are no tariff deals
+  abbrev pub tariffCapTotal : ℕ
+  tariffCapTotal = sumSquare (t .tariffCap) (t .growers) (t .pilots)
 
   module _ (h : DealHours) where
     -- the joint gain of all hours in free deals
@@ -25,6 +31,10 @@ module _ (t : Ticket) where
     -- the worth of all hours, where there are no tariff deals
     abbrev pub totalWorth : ℕ
     totalWorth = gainTotal + growerStandbyTotal + pilotStandbyTotal
+
+    -- the worth that is given with a sound settlement, which is then the greatest: 0 where a tariff cap is above 0
+    abbrev pub promisedWorth : ℕ
+    promisedWorth = cond (ltb 0 tariffCapTotal) 0 totalWorth
 
 -- the most hours that a grower and a pilot can have of their free deal
 abbrev pub mostHours : Ticket → ℕ → ℕ → ℕ

@@ -33,7 +33,7 @@ pub struct Answer {
 
 const NONE: u8 = 0;
 
-const SOUND: u8 = 1;
+pub const SOUND: u8 = 1;
 
 const TARIFF_OVER_CAP: u8 = 2;
 
@@ -207,6 +207,11 @@ fn wrong_deal(ticket: &[u8], settlement: &[u8]) -> Answer {
         }
     }
     found(SOUND, 0, 0, 0, wide(deals(ticket)))
+}
+
+// No fault of a deal's terms, and nobody over his hours.
+pub(crate) fn is_feasible(ticket: &[u8], settlement: &[u8]) -> bool {
+    wrong_terms(ticket, settlement).number == NONE && wrong_party(ticket, settlement).number == NONE
 }
 
 // The first fault in the paper's order, or sound.

@@ -1,5 +1,6 @@
-// Small tickets, whether they are refused, their settlements, and the verdict on a settlement by the words of the paper, for the searches
-// of the test programs. A ticket here has at most two growers and two pilots, and all numbers are below 128, so that a number is a byte.
+// Small tickets, whether they are refused, their settlements, the verdict on a settlement by the words of the paper, and the greatest worth
+// of all of them, for the searches of the test programs. A ticket here has at most two growers and two pilots, and all numbers are below
+// 128, so that a number is a byte.
 mod faults;
 mod numbers;
 mod refusals;
@@ -7,8 +8,10 @@ mod settlements;
 mod spares;
 mod tally;
 mod tickets;
+mod worths;
 
 pub use faults::Answer;
+pub use faults::SOUND;
 pub use faults::found;
 pub use faults::is_sound;
 pub use faults::verdict;
@@ -26,3 +29,5 @@ pub use tickets::first_ticket;
 pub use tickets::next_ticket;
 pub use tickets::pairs_begin;
 pub use tickets::ticket_length;
+pub use worths::Greatest;
+pub use worths::greatest_worth;

@@ -9,6 +9,12 @@ pub(crate) fn wide(x: u8) -> usize
     x as usize
 }
 
+pub(crate) fn product(x: u8, y: u8) -> usize
+    ensures { λ r. ⌜ r < 65536 ⌝ }
+{
+    wide(x) * wide(y)
+}
+
 // The number at a place, 0 past the end.
 pub(crate) fn value(file: &[u8], place: usize) -> u8 {
     if place < file.len() { file[place] } else { 0 }

@@ -7,7 +7,7 @@ use super::numbers::pilots;
 use super::numbers::wide;
 
 pub fn settlement_length(ticket: &[u8]) -> usize
-    ensures { λ r. ⌜ r < 16 ⌝ }
+    ensures { λ r. ⌜ (2 < r) × (r < 16) ⌝ }
 {
     3 + 3 * wide(pairs(ticket))
 }

@@ -8,7 +8,8 @@ use super::numbers::wide;
 // The most that the numbers of a grid's tickets are.
 pub struct Most {
     pub hours: u8,
-    pub cap: u8,
+    pub tariff_cap: u8,
+    pub free_cap: u8,
     pub amount: u8,
 }
 
@@ -74,7 +75,8 @@ fn most_at(ticket: &[u8], place: usize, most: Most) -> u8 {
         return most.hours;
     }
     match (place - begin) % 5 {
-        0 | 3 => most.cap,
+        0 => most.tariff_cap,
+        3 => most.free_cap,
         2 => most_amount(value(ticket, place - 2), most),
         _ => most_amount(value(ticket, place - 1), most),
     }

@@ -1,4 +1,5 @@
-// Answers, each on a line of its own: a refusal, what was written into a lent buffer, and a verdict.
+// Answers, each on a line of its own: a refusal, what was written into a lent buffer, a verdict, and a worth.
+use super::amount;
 use super::bytes;
 use super::end_line;
 use super::lent::kept_bytes;
@@ -102,5 +103,14 @@ pub fn verdict(which: usize, grower: usize, pilot: usize, free: bool, count: usi
     place(pilot);
     deal(free);
     number(count);
+    end_line();
+}
+
+// The number of a verdict, and the worth that is given with it.
+pub fn worth(which: usize, euros: u64) {
+    text(b"  ");
+    number(which);
+    text(b" worth ");
+    amount(euros);
     end_line();
 }

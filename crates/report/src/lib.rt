@@ -11,6 +11,7 @@ pub use answers::refused;
 pub use answers::refused_bytes;
 pub use answers::refused_numbers;
 pub use answers::verdict;
+pub use answers::worth;
 pub use lent::marked_bytes;
 pub use lent::marked_numbers;
 
@@ -21,7 +22,11 @@ pub fn text(words: &[u8]) {
 }
 
 pub fn number(x: usize) {
-    io::print_decimal(OUT, x as u64);
+    amount(x as u64);
+}
+
+pub(crate) fn amount(x: u64) {
+    io::print_decimal(OUT, x);
 }
 
 // A byte in hexadecimal and a number in decimal, a space before each.

@@ -52,7 +52,7 @@ pub fn is_remark(line: &[u8]) -> bool {
 // How many words stand before the documents.
 fn words_before(operation: Operation) -> usize {
     match operation {
-        Operation::Mark | Operation::Account => 1,
+        Operation::Mark | Operation::Worth | Operation::Account => 1,
         Operation::Read | Operation::Write => 4,
         _ => 2,
     }
@@ -66,10 +66,10 @@ fn base_of(operation: Operation) -> Base {
     }
 }
 
-// The longest second document. Only marking and accounts have one.
+// The longest second document. Only marking, worths and accounts have one.
 fn longest_second(operation: Operation) -> usize {
     match operation {
-        Operation::Mark | Operation::Account => LONGEST,
+        Operation::Mark | Operation::Worth | Operation::Account => LONGEST,
         _ => 0,
     }
 }
@@ -106,7 +106,7 @@ fn case_of_parties(line: &[u8], operation: Operation, lengths: Lengths) -> Case 
 // A case with the numbers that stand before its documents.
 fn with_numbers(line: &[u8], operation: Operation, lengths: Lengths) -> Case {
     match operation {
-        Operation::Mark | Operation::Account => case_of(operation, 0, lengths),
+        Operation::Mark | Operation::Worth | Operation::Account => case_of(operation, 0, lengths),
         Operation::Read | Operation::Write => case_of_parties(line, operation, lengths),
         _ => case_of(operation, number_at(line, 1), lengths),
     }

@@ -5,6 +5,7 @@ pub enum Operation {
     Read,
     Write,
     Mark,
+    Worth,
     Account,
     Settle,
     Sheet,
@@ -21,6 +22,8 @@ const READ: u64 = 0x72_65_61_64;
 const WRITE: u64 = 0x77_72_69_74_65;
 
 const MARK: u64 = 0x6d_61_72_6b;
+
+const WORTH: u64 = 0x77_6f_72_74_68;
 
 const ACCOUNT: u64 = 0x61_63_63_6f_75_6e_74;
 
@@ -48,6 +51,7 @@ pub(crate) fn named(word: &[u8]) -> Operation {
         READ => Operation::Read,
         WRITE => Operation::Write,
         MARK => Operation::Mark,
+        WORTH => Operation::Worth,
         ACCOUNT => Operation::Account,
         SETTLE => Operation::Settle,
         SHEET => Operation::Sheet,

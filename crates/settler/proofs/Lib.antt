@@ -1,4 +1,5 @@
 pub mod ListLaws
 pub mod SettlementNumbers
 pub mod Answering
+pub mod BestSettled
 pub mod WrongSettlings

@@ -17,7 +17,7 @@ use Rattle.market.specs.declared.Deal.the-variants.{Tariff, Free}
 use Rattle.market.specs.Market.{Idle}
 use Rattle.tables.specs.View.{ticketOf, settlementOf}
 use Rattle.verdicts.specs.Tests.{cheapestOf}
-use Rattle.verdicts.specs.Values.{verdictNumber, verdictValues}
+use Rattle.verdicts.specs.Values.{verdictNumber, soundValues}
 use Rattle.marker.specs.Marked.{marked, markedValues}
 use Rattle.marker.specs.Examples.{ticketA, ticketD}
 use Rattle.marker.proofs.Examples.{examples}
@@ -31,7 +31,7 @@ pub record WrongSettlings : Type 0 where
   pub withoutHours : (lent : List ℕ) → ¬ Settled ticketA lent (2 ∷ 1 ∷ 1 ∷ 0 ∷ 0 ∷ 0 ∷ drop 6 lent) (Reply.Done 6)
   -- one stock settlement, and beside it that marking finds it sound for ticket D
   pub stock : (lent : List ℕ) → ¬ Settled ticketA lent (2 ∷ 1 ∷ 1 ∷ 0 ∷ 1 ∷ 5 ∷ drop 6 lent) (Reply.Done 6)
-  pub stockForD : markedValues ticketD (2 ∷ 1 ∷ 1 ∷ 0 ∷ 1 ∷ 5 ∷ []) ≡ verdictValues 1 0 0 Tariff 2
+  pub stockForD : markedValues ticketD (2 ∷ 1 ∷ 1 ∷ 0 ∷ 1 ∷ 5 ∷ []) ≡ soundValues 2 10
   -- any stock settlement: nothing that is written settles both A and D
   pub anyStock : (lent after : List ℕ) (count : ℕ) → Settled ticketA lent after (Reply.Done count) →
       ¬ Settled ticketD lent after (Reply.Done count)

@@ -11,6 +11,7 @@ use Rattle.reader.specs.Walk.{Outcome, Refusal, Numbers}
 use Rattle.reader.specs.Values.{Refuses, Counts}
 use Rattle.reader.specs.Answer.{unpacked, settlementRead}
 use Rattle.market.specs.Market.{Sound, NobodyGains}
+use Rattle.market.specs.Totals.{promisedWorth}
 use Rattle.tables.specs.View.{growersOf, pilotsOf, ticketOf, settlementOf}
 use Rattle.verdicts.specs.declared.Verdict.{Verdict}
 use Rattle.marker.specs.Marked.{marked}
@@ -27,8 +28,9 @@ pub record SettledIn (ticket xs lent after : List ℕ) (count : ℕ) : Type 0 wh
   pub numbers : List ℕ
   pub file : settlementRead (growersOf xs) (pilotsOf xs) (take count after) ≡ Numbers numbers
   pub good : SoundNumbers xs numbers
-  -- marking finds it sound, having looked at all deals
-  pub marks : marked ticket (take count after) ≡ Verdict.Sound (2 * (growersOf xs * pilotsOf xs))
+  -- marking finds it sound, having looked at all deals, and gives its worth
+  pub marks : marked ticket (take count after) ≡
+      Verdict.Sound (2 * (growersOf xs * pilotsOf xs)) (promisedWorth (ticketOf xs) (settlementOf numbers .hours))
   pub rest : drop count after ≡ drop count lent
 
 -- The bytes that the buffer must have, though the settlement may be shorter: three, and four for each pair.

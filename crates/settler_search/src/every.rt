@@ -26,7 +26,7 @@ fn judged(ticket: &[u8], settlement: &[u8; 15], ours: &[u8; 19]) -> usize {
 }
 
 // There are fewer than a million.
-pub(crate) fn of_ticket(ticket: &[u8], ours: &[u8; 19], tally: &mut [usize; 13]) {
+pub(crate) fn of_ticket(ticket: &[u8], ours: &[u8; 19], tally: &mut [usize; 17]) {
     let mut settlement = plain::first_settlement(ticket);
     for turn in 0..1000000usize {
         count(&mut *tally, judged(ticket, &settlement, ours));

@@ -3,22 +3,27 @@ use super::every;
 use super::printed;
 use super::settled;
 use super::tally::TICKETS;
+use super::worths;
 use plain::Most;
 use plain::count;
 use plain::first_ticket;
 use plain::no_counts;
 
-fn of_ticket(file: &[u8; 27], with_every: bool, tally: &mut [usize; 13]) {
+fn of_ticket(file: &[u8; 27], with_every: bool, tally: &mut [usize; 17]) {
     let ticket = bytes::front(file, plain::ticket_length(file));
     let mut lent = settled::no_bytes();
     count(&mut *tally, settled::of_ticket(ticket, &mut lent));
-    if with_every && !plain::is_refused(ticket) {
+    if plain::is_refused(ticket) {
+        return;
+    }
+    worths::compare(ticket, &lent, &mut *tally);
+    if with_every {
         every::of_ticket(ticket, &lent, tally);
     }
 }
 
 // Every ticket of a grid, fewer than ten million.
-fn of_grid(first: [u8; 27], from: usize, most: Most, with_every: bool) -> [usize; 13] {
+fn of_grid(first: [u8; 27], from: usize, most: Most, with_every: bool) -> [usize; 17] {
     let mut tally = no_counts();
     let mut ticket = first;
     for turn in 0..10000000usize {
@@ -34,7 +39,17 @@ fn of_grid(first: [u8; 27], from: usize, most: Most, with_every: bool) -> [usize
 fn most(hours: u8, cap: u8, amount: u8) -> Most {
     Most {
         hours: hours,
-        cap: cap,
+        tariff_cap: cap,
+        free_cap: cap,
+        amount: amount,
+    }
+}
+
+fn most_of_free_deals(hours: u8, cap: u8, amount: u8) -> Most {
+    Most {
+        hours: hours,
+        tariff_cap: 0,
+        free_cap: cap,
         amount: amount,
     }
 }
@@ -74,6 +89,7 @@ fn larger() {
     most_hours(2, 1, most(2, 2, 3));
     all_hours(2, 2, most(2, 1, 1));
     most_hours(2, 2, most(1, 1, 2));
+    most_hours(2, 2, most_of_free_deals(2, 2, 2));
 }
 
 pub(crate) fn all() {

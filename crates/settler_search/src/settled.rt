@@ -20,7 +20,7 @@ fn wide(x: u8) -> usize {
 // Sound, with every deal looked at.
 fn is_marked_sound(ticket: &[u8], settlement: &[u8]) -> bool {
     match marker::mark(ticket, settlement) {
-        Verdict::Sound { count } => count == wide(plain::deals(ticket)),
+        Verdict::Sound { count, worth: _ } => count == wide(plain::deals(ticket)),
         _ => false,
     }
 }

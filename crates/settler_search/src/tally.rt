@@ -23,3 +23,10 @@ pub(crate) const WRONG: usize = 8;
 
 // Tickets that are refused with another number, or by the settler or the plain check alone.
 pub(crate) const OTHERWISE: usize = 9;
+
+// Tickets without tariff deals, those of them that are worth something, and those settled with another worth than the greatest.
+pub(crate) const ONLY_FREE: usize = 10;
+
+pub(crate) const WORTH_SOMETHING: usize = 11;
+
+pub(crate) const OTHER_WORTH: usize = 12;

@@ -77,10 +77,10 @@ module _ {ticket xs file : List ℕ} (f : SoundFile ticket xs file) (n m : ℕ) 
         let same : f .numbers ≡ list = cc in
         rw same at (f .settles)
 
-    pub read-together : (count : ℕ) → ((k : ℕ) → marked ticket file ≡ Verdict.Sound k → count ≡ k) → Together xs list count
+    pub read-together : (count : ℕ) → ((k w : ℕ) → marked ticket file ≡ Verdict.Sound k w → count ≡ k) → Together xs list count
     read-together count h = record {
       paired = record { ticket = ticket; file = file; settles = list-settles };
-      marks = h _ (all-deals-marked list-settles) ∙ sym (ap verdictCount (all-deals-judged list-settles));
+      marks = h _ _ (all-deals-marked list-settles) ∙ sym (ap verdictCount (all-deals-judged list-settles));
     }
 
     pub printed-settled : {page page₁ : List ℕ} {end : ℕ} → Wrote page page₁ 0 end (sheetText xs list) → Printed (Numbers xs) page page₁ end

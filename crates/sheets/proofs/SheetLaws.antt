@@ -11,6 +11,7 @@ use Rattle.grid.specs.Grid.{Grid, at}
 use Rattle.numbers.proofs.Products.{prod-small}
 use Rattle.market.specs.declared.Deal.the-variants.{Tariff, Free}
 use Rattle.market.specs.Market.{Ticket, Settlement}
+use Rattle.market.specs.Totals.{promisedWorth}
 use Rattle.reader.proofs.Facts.{unpacked-shape, unpacked-deal, settlement-shape}
 use Rattle.tables.specs.declared.Quantity.{Quantity}
 use Rattle.tables.specs.declared.Quantity.the-variants.{TariffCap, TariffGain, TariffPay, JointGain}
@@ -73,7 +74,10 @@ module _ {ticket xs file ys : List ℕ} (s : Settles ticket xs file ys) where
   few-pilots = unpacked-shape ticket xs (s .unpacks) .pilots .1
 
   -- the marker counts all deals
-  pub all-deals-marked : marked ticket file ≡ Verdict.Sound (2 * (growersOf xs * pilotsOf xs))
+  abbrev allDeals : Verdict
+  allDeals = Verdict.Sound (2 * (growersOf xs * pilotsOf xs)) (promisedWorth (ticketOf xs) (settlementOf ys .hours))
+
+  pub all-deals-marked : marked ticket file ≡ allDeals
   all-deals-marked = sound-files-marked ticket file (record {
     numbers = xs;
     answer = ys;
@@ -82,7 +86,7 @@ module _ {ticket xs file ys : List ℕ} (s : Settles ticket xs file ys) where
     sound = s .good .sound;
   })
 
-  pub all-deals-judged : judged (ticketOf xs) (settlementOf ys) ≡ Verdict.Sound (2 * (growersOf xs * pilotsOf xs))
+  pub all-deals-judged : judged (ticketOf xs) (settlementOf ys) ≡ allDeals
   all-deals-judged = rw (s .unpacks, s .read) at all-deals-marked
 
   pub count-small : verdictCount (judged (ticketOf xs) (settlementOf ys)) < 1000

@@ -26,10 +26,10 @@ fn header(page: &mut [u8; 8216], growers: u16, pilots: u16) -> usize
 
 // The deals that the marker looks at in a sound settlement.
 pub(crate) fn marked_deals(ticket: &[u8], settlement: &[u8]) -> usize
-    ensures { λ r. ⌜ ((count : ℕ) → marked (now (ticket .entry)) (now (settlement .entry)) ≡ Verdict.Sound count → r ≡ count) ⌝ }
+    ensures { λ r. ⌜ ((count worth : ℕ) → marked (now (ticket .entry)) (now (settlement .entry)) ≡ Verdict.Sound count worth → r ≡ count) ⌝ }
 {
     let verdict = marker::mark(ticket, settlement);
-    if let Verdict::Sound { count } = verdict {
+    if let Verdict::Sound { count, worth: _ } = verdict {
         count
     } else {
         0

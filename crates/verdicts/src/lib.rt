@@ -11,13 +11,15 @@ use market::Deal;
 pub use pair_faults::pair_fault;
 pub use paper::values_of;
 
-// The answer of marking. A fault names the grower, the pilot and the deal; the count is the number of deals looked at in the last walk.
+// The answer of marking. A fault names the grower, the pilot and the deal; the count is the number of deals looked at in the last walk. The
+// worth of a sound settlement is 0 where a tariff cap is above 0.
 pub enum Verdict {
     Refused {
         why: u8,
     },
     Sound {
         count: usize,
+        worth: u64,
     },
     TariffOverCap {
         grower: usize,
@@ -59,6 +61,7 @@ pub struct Values {
     pub pilot: usize,
     pub deal: Deal,
     pub count: usize,
+    pub worth: u64,
 }
 
 // The verdict on a fault, or nothing.

@@ -1,12 +1,16 @@
 // The paper's number and values of a verdict.
 ghost use mathlib.Core.Path.{_≡_};
-ghost use Rattle.verdicts.specs.Values.{verdictValues, valuesOf};
+ghost use Rattle.verdicts.specs.Values.{faultValues, valuesOf};
 use crate::Values;
 use crate::Verdict;
 use market::Deal;
 
+// Only a sound settlement has a worth.
+const NO_WORTH: u64 = 0;
+
+// Of a fault.
 fn values(verdict: u8, grower: usize, pilot: usize, deal: Deal, count: usize) -> Values
-    ensures { λ r. ⌜ r ≡ verdictValues verdict grower pilot deal count ⌝ }
+    ensures { λ r. ⌜ r ≡ faultValues verdict grower pilot deal count ⌝ }
 {
     Values {
         refusal: 0,
@@ -15,6 +19,7 @@ fn values(verdict: u8, grower: usize, pilot: usize, deal: Deal, count: usize) ->
         pilot,
         deal,
         count,
+        worth: NO_WORTH,
     }
 }
 
@@ -29,8 +34,17 @@ pub fn values_of(verdict: Verdict) -> Values
             pilot: 0,
             deal: Deal::Tariff,
             count: 0,
+            worth: NO_WORTH,
         },
-        Verdict::Sound { count } => values(1, 0, 0, Deal::Tariff, count),
+        Verdict::Sound { count, worth } => Values {
+            refusal: 0,
+            verdict: 1,
+            grower: 0,
+            pilot: 0,
+            deal: Deal::Tariff,
+            count,
+            worth,
+        },
         Verdict::TariffOverCap { grower, pilot } => values(2, grower, pilot, Deal::Tariff, 0),
         Verdict::FreeOverCap { grower, pilot } => values(3, grower, pilot, Deal::Free, 0),
         Verdict::WrongPay { grower, pilot } => values(4, grower, pilot, Deal::Free, 0),

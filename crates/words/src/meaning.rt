@@ -198,6 +198,26 @@ fn deal_fault(ticket: &[u8], settlement: &[u8], i: usize, j: usize, deal: Deal, 
     gains_of_files(ticket, settlement, i, j, deal);
 }
 
+// Whether a ticket, which has been read before, has a tariff deal: then no worth is promised.
+fn has_tariff_deal(ticket: &[u8]) -> bool {
+    let mut list = numbers::ticket_list();
+    let Reply::Done { count } = reader::unpack(ticket, &mut list) else {
+        return true;
+    };
+    let terms = numbers::front(&list, count);
+    let caps = tables::square(terms, Quantity::TariffCap);
+    totals::has_tariff_deal(tables::growers(terms), tables::pilots(terms), caps)
+}
+
+fn sound(ticket: &[u8], worth: u64) {
+    end(b"sound: no deal is idle or blocks");
+    if has_tariff_deal(ticket) {
+        return;
+    }
+    counted(STDOUT_FILENO, b"worth ", worth);
+    end(b": no settlement of this ticket is worth more");
+}
+
 // The verdict on a settlement of a ticket, both as the bytes of files, by its number on paper.
 pub fn explain(ticket: &[u8], settlement: &[u8], verdict: Verdict) {
     let values = verdicts::values_of(verdict);
@@ -205,7 +225,7 @@ pub fn explain(ticket: &[u8], settlement: &[u8], verdict: Verdict) {
     let number = values.verdict;
     match number {
         0 => refusal(STDOUT_FILENO, values.refusal),
-        1 => end(b"sound: no deal is idle or blocks"),
+        1 => sound(ticket, values.worth),
         2 | 3 => pair_fault(values.grower, values.pilot, deal, false),
         4 => pair_fault(values.grower, values.pilot, deal, true),
         5 => grower_over(values.grower),

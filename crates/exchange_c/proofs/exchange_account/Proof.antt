@@ -1,6 +1,6 @@
 -- `exchange_c::exchange_account` meets its contract: the account's reply as a number, and the list that is lent.
 -- Assumes nothing.
-use mathlib.Core.Path.{_≡_, _∙_}
+use mathlib.Core.Path.{_≡_}
 use Rattle.accounts.specs.Accounted.{accountOutcome}
 use Rattle.exchange_c.specs.Accounts.{outcomeOf}
 use Rattle.exchange_c.proofs.AccountLaws.{account-outcome, account-fits, account-small}

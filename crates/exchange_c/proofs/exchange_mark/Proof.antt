@@ -8,16 +8,15 @@ use borrow.Author.Needs.{needs}
 use Rattle.exchange_c.proofs.exchange_mark.Statement.{statement}
 use Rattle.exchange_c.proofs.exchange_mark.Tie as tie
 
--- the values are those of the settlement, marked against the ticket
-values : (c : tie.After-values-of) → let a = c .before .before .before .before .args in
-    c .values-of .result ≡ markedValues (a .ticket .now) (a .settlement .now)
-values c = c .values-of .ensures ∙ c .before .mark .ensures .1
-
 mark-number-requires : tie.Need-mark-number-requires
-mark-number-requires c κs = rw (values c) (marked-bounded _ _)
+mark-number-requires c κs = rw (c .marked-values .ensures) (marked-bounded _ _)
 
 returns : tie.Need-returns
-returns c = c .mark-number .ensures ∙ ap markNumber (values (c .before))
+returns c =
+    let a = c .before .before .before .before .args in
+    let values : c .before .marked-values .result ≡ markedValues (a .ticket .now) (a .settlement .now) =
+    c .before .marked-values .ensures in
+    c .mark-number .ensures ∙ ap markNumber values
 
 pub exchange-mark-spec : {M : Type 1} → statement M
-exchange-mark-spec = tie.close (tie.spec (λ c κs. search needs) (λ c κs. search needs) mark-number-requires returns)
+exchange-mark-spec = tie.close (tie.spec (λ c κs. search needs) mark-number-requires returns)

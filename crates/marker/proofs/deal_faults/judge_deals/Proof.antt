@@ -16,28 +16,45 @@ use Rattle.marker.proofs.deal_faults.judge_deals.Statement.{statement}
 use Rattle.marker.proofs.deal_faults.judge_deals.Tie as tie
 
 abbrev Inv-loop2 : tie.InvT-loop2
-Inv-loop2 n m growers pilots tariff-cap free-cap joint-gain verdict₀ i grower j pilot deal₀ verdict deal =
+Inv-loop2 n m worth growers pilots tariff-cap free-cap joint-gain count verdict₀ i grower j pilot deal₀ verdict deal =
     ((o : Origin n m growers pilots tariff-cap free-cap joint-gain) →
-    none (dealFaultAt (ticketFrom o) (settlementFrom o)) (2 * (i * m + j) + dealNumber deal)) × (verdict ≡ Sound (2 * (n * m)))
+    none (dealFaultAt (ticketFrom o) (settlementFrom o)) (2 * (i * m + j) + dealNumber deal)) × (verdict ≡ Sound (2 * (n * m)) worth)
 
 abbrev μ-loop2 : tie.MeasureT-loop2
-μ-loop2 n m growers pilots tariff-cap free-cap joint-gain verdict₀ i grower j pilot deal₀ verdict deal = 1 - dealNumber deal
+μ-loop2 n m worth growers pilots tariff-cap free-cap joint-gain count verdict₀ i grower j pilot deal₀ verdict deal = 1 - dealNumber deal
 
 abbrev Inv-loop : tie.InvT-loop
-Inv-loop n m growers pilots tariff-cap free-cap joint-gain verdict₀ i grower j₀ verdict j = (j ≤ m) ×
+Inv-loop n m worth growers pilots tariff-cap free-cap joint-gain count verdict₀ i grower j₀ verdict j = (j ≤ m) ×
     ((o : Origin n m growers pilots tariff-cap free-cap joint-gain) →
-    none (dealFaultAt (ticketFrom o) (settlementFrom o)) (2 * (i * m + j))) × (verdict ≡ Sound (2 * (n * m)))
+    none (dealFaultAt (ticketFrom o) (settlementFrom o)) (2 * (i * m + j))) × (verdict ≡ Sound (2 * (n * m)) worth)
 
 abbrev μ-loop : tie.MeasureT-loop
-μ-loop n m growers pilots tariff-cap free-cap joint-gain verdict₀ i grower j₀ verdict j = m - j
+μ-loop n m worth growers pilots tariff-cap free-cap joint-gain count verdict₀ i grower j₀ verdict j = m - j
 
 abbrev Inv-search : tie.InvT-search
-Inv-search n m growers pilots tariff-cap free-cap joint-gain verdict₀ i₀ verdict i = (i ≤ n) ×
+Inv-search n m worth growers pilots tariff-cap free-cap joint-gain count verdict₀ i₀ verdict i = (i ≤ n) ×
     ((o : Origin n m growers pilots tariff-cap free-cap joint-gain) →
-    none (dealFaultAt (ticketFrom o) (settlementFrom o)) (2 * (i * m))) × (verdict ≡ Sound (2 * (n * m)))
+    none (dealFaultAt (ticketFrom o) (settlementFrom o)) (2 * (i * m))) × (verdict ≡ Sound (2 * (n * m)) worth)
 
 abbrev μ-search : tie.MeasureT-search
-μ-search n m growers pilots tariff-cap free-cap joint-gain verdict₀ i₀ verdict i = n - i
+μ-search n m worth growers pilots tariff-cap free-cap joint-gain count verdict₀ i₀ verdict i = n - i
+
+-- from the turn of a deal to that of its pair, from there to its grower's, and from there to the start
+abbrev pairOf : tie.At-loop2 Inv-loop2 μ-loop2 Inv-loop μ-loop Inv-search μ-search →
+    tie.At-loop Inv-loop2 μ-loop2 Inv-loop μ-loop Inv-search μ-search
+pairOf c = c .before .before .before
+
+abbrev growerOf : tie.At-loop Inv-loop2 μ-loop2 Inv-loop μ-loop Inv-search μ-search →
+    tie.At-search Inv-loop2 μ-loop2 Inv-loop μ-loop Inv-search μ-search
+growerOf c = c .before .before .before
+
+abbrev startOf : tie.At-search Inv-loop2 μ-loop2 Inv-loop μ-loop Inv-search μ-search →
+    tie.Start Inv-loop2 μ-loop2 Inv-loop μ-loop Inv-search μ-search
+startOf c = c .before .before
+
+abbrev dealOf : tie.After-deal-fault Inv-loop2 μ-loop2 Inv-loop μ-loop Inv-search μ-search →
+    tie.At-loop2 Inv-loop2 μ-loop2 Inv-loop μ-loop Inv-search μ-search
+dealOf c = c .before .before .before .before
 
 -- the parties' origin
 abbrev From : tie.Start Inv-loop2 μ-loop2 Inv-loop μ-loop Inv-search μ-search → Type 0
@@ -45,43 +62,38 @@ From s = let a = s .args in Origin (a .n) (a .m) (a .t3) (a .t4) (a .t5) (a .t6)
 
 -- what was found of a deal is what the definition asks of it
 there : (c : tie.After-deal-fault Inv-loop2 μ-loop2 Inv-loop μ-loop Inv-search μ-search)
-    (o : From (c .before .before .before .before .before .before .before .before .before .before .before .before)) →
-    let i = c .before .before .before .before .before .before .before .before .before .before .search .i in let j =
-    c .before .before .before .before .before .before .before .loop .j in let d = c .before .before .before .before .loop2 .deal in
+    (o : From (startOf (growerOf (pairOf (dealOf c))))) →
+    let pair = pairOf (dealOf c) in let i = growerOf pair .search .i in let j = pair .loop .j in let d = dealOf c .loop2 .deal in
     c .deal-fault .result ≡ foundIf (wrongDeal (ticketFrom o) (settlementFrom o) d i j)
-    (dealVerdict (ticketFrom o) (settlementFrom o)
-    (2 * (i * c .before .before .before .before .before .before .before .before .before .before .before .before .args .m + j) +
-    dealNumber d + 1) i j d)
-there c o = c .deal-fault .ensures
-    ∙ deal-found-is o (c .before .before .before .before .before .before .before .before .before .before .search .i)
-    (c .before .before .before .before .before .before .before .loop .j)
-    (c .before .before .before .before .before .before .before .before .before .search-test .taken)
-    (c .before .before .before .before .before .before .loop-test .taken) (c .before .before .before .before .loop2 .deal)
+    (dealVerdict (ticketFrom o) (settlementFrom o) (2 * (i * startOf (growerOf pair) .args .m + j) + dealNumber d + 1) i j d)
+there c o =
+    let turn = dealOf c in
+    let pair = pairOf turn in
+    c .deal-fault .ensures
+    ∙ deal-found-is o (growerOf pair .search .i) (pair .loop .j) (pair .before .before .search-test .taken)
+    (turn .before .before .loop-test .taken) (turn .loop2 .deal)
 
 -- a deal that is passed by
 passed : (c : tie.After-enum-told Inv-loop2 μ-loop2 Inv-loop μ-loop Inv-search μ-search)
-    (o : From (c .before .before .before .before .before .before .before .before .before .before .before .before .before .before)) →
+    (o : From (startOf (growerOf (pairOf (dealOf (c .before .before)))))) →
+    let turn = dealOf (c .before .before) in let pair = pairOf turn in
     none (dealFaultAt (ticketFrom o) (settlementFrom o))
-    (2 * (c .before .before .before .before .before .before .before .before .before .before .before .before .search .i *
-    c .before .before .before .before .before .before .before .before .before .before .before .before .before .before .args .m +
-    c .before .before .before .before .before .before .before .before .before .loop .j) + dealNumber
-    (c .before .before .before .before .before .before .loop2 .deal) + 1)
-passed c o = deal-passed (ticketFrom o) (settlementFrom o)
-    (c .before .before .before .before .before .before .before .before .before .before .before .before .search .i)
-    (c .before .before .before .before .before .before .before .before .before .loop .j)
-    (c .before .before .before .before .before .before .before .before .before .before .before .search-test .taken)
-    (c .before .before .before .before .before .before .before .before .loop-test .taken)
-    (c .before .before .before .before .before .before .loop2 .deal)
-    (c .before .before .before .before .before .before .loop2 .inv .0 o) _ (there (c .before .before) o) (c .enum-told .given .1)
+    (2 * (growerOf pair .search .i * startOf (growerOf pair) .args .m + pair .loop .j) + dealNumber (turn .loop2 .deal) + 1)
+passed c o =
+    let turn = dealOf (c .before .before) in
+    let pair = pairOf turn in
+    deal-passed (ticketFrom o) (settlementFrom o) (growerOf pair .search .i) (pair .loop .j) (pair .before .before .search-test .taken)
+    (turn .before .before .loop-test .taken) (turn .loop2 .deal) (turn .loop2 .inv .0 o) _ (there (c .before .before) o)
+    (c .enum-told .given .1)
 
-mul-t22 : tie.Need-mul-t22 Inv-loop2 μ-loop2 Inv-loop μ-loop Inv-search μ-search
-mul-t22 c = omega (arith, c .pairs .ensures .2)
+mul-count : tie.Need-mul-count Inv-loop2 μ-loop2 Inv-loop μ-loop Inv-search μ-search
+mul-count c = omega (arith, c .pairs .ensures .2)
 
 search-holds : tie.Need-search-holds Inv-loop2 μ-loop2 Inv-loop μ-loop Inv-search μ-search
 search-holds c = (
   omega arith,
   (λ o q h. absurd (omega arith)),
-  ap (λ (k : ℕ). Sound (2 * k))
+  ap (λ (k : ℕ). Sound (2 * k) (c .before .args .worth))
       (c .pairs .ensures .1 (omega arith) (omega arith)),
 )
 
@@ -97,7 +109,7 @@ loop2-less c = let e = ap dealNumber (c .enum-told2 .given .1) in omega arith
 loop2-again : tie.Need-loop2-again Inv-loop2 μ-loop2 Inv-loop μ-loop Inv-search μ-search
 loop2-again c = (
   (λ o. none-le _ _ _ (passed (c .before .before) o) (omega (arith, ap dealNumber (c .enum-told2 .given .1)))),
-  c .before .before .before .before .before .before .before .before .loop2 .inv .1,
+  dealOf (c .before .before .before .before) .loop2 .inv .1,
 )
 
 loop-again : tie.Need-loop-again Inv-loop2 μ-loop2 Inv-loop μ-loop Inv-search μ-search
@@ -105,7 +117,7 @@ loop-again c = (
   omega arith,
   (λ o. none-le _ _ _ (passed (c .before .before) o)
       (omega (arith, ap dealNumber (c .enum-told3 .given .1)))),
-  c .before .before .before .before .before .before .before .before .loop2 .inv .1,
+  dealOf (c .before .before .before .before) .loop2 .inv .1,
 )
 
 search-again : tie.Need-search-again Inv-loop2 μ-loop2 Inv-loop μ-loop Inv-search μ-search
@@ -124,14 +136,16 @@ returns : tie.Need-returns Inv-loop2 μ-loop2 Inv-loop μ-loop Inv-search μ-sea
 returns c =
     λ o. let a = c .before .before .before .args in
     let e : c .before .search .i ≡ a .n = omega arith in
-    deals-judged (ticketFrom o) (settlementFrom o)
+    deals-judged (ticketFrom o) (settlementFrom o) _
     (none-le _ _ _ (c .before .search .inv .1 o) (omega (arith, ap (λ (k : ℕ). k * a .m) e))) _ (c .before .search .inv .2)
 
 returns-2 : tie.Need-returns-2 Inv-loop2 μ-loop2 Inv-loop μ-loop Inv-search μ-search
 returns-2 c =
-    λ o. let s = c .before .before .before in
-    deal-judged (ticketFrom o) (settlementFrom o) (s .before .before .before .before .before .before .before .before .before .before .search .i) (s .before .before .before .before .before .before .before .loop .j) (s .before .before .before .before .before .before .before .before .before .search-test .taken) (s .before .before .before .before .before .before .loop-test .taken)
-    (s .before .before .before .before .loop2 .deal) (s .before .before .before .before .loop2 .inv .0 o) _ (there s o) _
+    λ o. let found = c .before .before .before in
+    let turn = dealOf found in
+    let pair = pairOf turn in
+    deal-judged (ticketFrom o) (settlementFrom o) (growerOf pair .search .i) (pair .loop .j) (pair .before .before .search-test .taken)
+    (turn .before .before .loop-test .taken) (turn .loop2 .deal) (turn .loop2 .inv .0 o) _ (there found o) _ _
     (c .before .found .given .1)
 
 pub judge-deals-spec : {M : Type 1} → statement M
@@ -145,7 +159,7 @@ judge-deals-spec =
     Inv-search
     μ-search
     (λ c κs. search needs)
-    mul-t22
+    mul-count
     search-holds
     (λ c. omega arith)
     (λ c. omega arith)

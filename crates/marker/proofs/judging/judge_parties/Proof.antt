@@ -9,17 +9,17 @@ use Rattle.marker.proofs.judging.judge_parties.Statement.{statement}
 use Rattle.marker.proofs.judging.judge_parties.Tie as tie
 
 returns : tie.Need-returns
-returns c = λ o. grower-judged (ticketFrom o) (settlementFrom o) _ (c .before .first-over .ensures ∙ first-grower o) (omega arith)
+returns c = λ o. grower-judged (ticketFrom o) (settlementFrom o) _ _ (c .before .first-over .ensures ∙ first-grower o) (omega arith)
 
 returns-2 : tie.Need-returns-2
 returns-2 c =
-    λ o. pilot-judged (ticketFrom o) (settlementFrom o) _ (c .before .before .before .first-over .ensures ∙ first-grower o)
+    λ o. pilot-judged (ticketFrom o) (settlementFrom o) _ _ (c .before .before .before .first-over .ensures ∙ first-grower o)
     (c .before .before .if1 .left)
     _ (c .before .first-over2 .ensures ∙ first-pilot o) (c .if2 .taken)
 
 returns-3 : tie.Need-returns-3
 returns-3 c =
-    λ o. c .judge-deals .ensures o ∙ hours-judged (ticketFrom o) (settlementFrom o) _
+    λ o. c .judge-deals .ensures o ∙ hours-judged (ticketFrom o) (settlementFrom o) _ _
     (c .before .before .before .before .first-over .ensures ∙ first-grower o) (c .before .before .before .if1 .left)
     _ (c .before .before .first-over2 .ensures ∙ first-pilot o) (c .before .if2 .left)
 

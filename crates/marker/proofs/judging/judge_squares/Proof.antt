@@ -1,7 +1,10 @@
 -- `marker::judge_squares` meets its contract: a fault of a pair, or else what the parties come to.
-use Prim.Native.Nat.{_*_}
-use mathlib.Core.Path.{_∙_}
+use Prim.Native.Nat.{ℕ, _*_, min}
+use mathlib.Core.Path.{_≡_, ap, ap₂, _∙_}
+use native.Mathlib.Omega.{arith}
+use Rattle.market.specs.Market.{Ticket, Settlement}
 use Rattle.market.specs.Tables.{ticketIn, settlementIn}
+use Rattle.market.specs.Totals.{promisedWorth}
 use Rattle.marker.specs.Verdict.{byPair, pairVerdict, pairFaultAt, hoursJudged}
 use Rattle.marker.specs.Tables.{Origin}
 use Rattle.marker.proofs.Verdicts.{walk-fault, walk-none}
@@ -9,22 +12,50 @@ use borrow.Author.Needs.{needs}
 use Rattle.marker.proofs.judging.judge_squares.Statement.{statement}
 use Rattle.marker.proofs.judging.judge_squares.Tie as tie
 
+-- the ticket of so many growers and pilots, and the settlement, that are in the squares
+abbrev ticketFor : tie.Start → ℕ → ℕ → Ticket
+ticketFor s n m =
+    let a = s .args in
+    ticketIn n m (a .grower-hours) (a .pilot-hours) (a .tariff-cap) (a .tariff-gain) (a .tariff-pay) (a .free-cap) (a .joint-gain)
+
+abbrev ticketOf : tie.Start → Ticket
+ticketOf s = ticketFor s (s .args .n) (s .args .m)
+
+abbrev settlementOf : tie.Start → Settlement
+settlementOf s = let a = s .args in settlementIn (a .tariff-hours) (a .free-deal-hours) (a .pay)
+
+abbrev worthOf : tie.Start → ℕ
+worthOf s = promisedWorth (ticketOf s) (settlementOf s .hours)
+
 returns : tie.Need-returns
 returns c =
-    let a = c .before .before .before .before .args in
-    let t = ticketIn (a .n) (a .m) (a .grower-hours) (a .pilot-hours) (a .tariff-cap) (a .tariff-gain) (a .tariff-pay) (a .free-cap)
-    (a .joint-gain) in
-    let x = settlementIn (a .tariff-hours) (a .free-deal-hours) (a .pay) in
-    walk-fault (pairFaultAt t x) (a .n * a .m) (byPair (pairVerdict t x) (a .m)) (hoursJudged t x) _ _
+    let s = c .before .before .before .before in
+    let t = ticketOf s in
+    let x = settlementOf s in
+    walk-fault (pairFaultAt t x) (t .growers * t .pilots) (byPair (pairVerdict t x) (t .pilots)) (hoursJudged t x (worthOf s)) _ _
     (c .before .before .before .first-pair-fault .ensures) (c .before .found .given .1)
+
+-- the worth is that of the ticket and the settlement
+worth-is : (c : tie.After-promised-worth) → c .promised-worth .result ≡ worthOf (c .before .before .before .before .before .before)
+worth-is c =
+    let s = c .before .before .before .before .before .before in
+    let a = s .args in
+    let rows : min 16 (a .n) ≡ a .n = omega (arith, s .pre) in
+    let columns : min 16 (a .m) ≡ a .m = omega (arith, s .pre) in
+    let worth : ℕ → ℕ → ℕ = λ n m. promisedWorth (ticketFor s n m) (settlementOf s .hours) in
+    let cut : c .promised-worth .result ≡ worth (min 16 (a .n)) (min 16 (a .m)) = c .promised-worth .ensures
+    (a .grower-hours) (a .pilot-hours) (a .tariff-gain) (a .tariff-pay) (a .free-cap) (a .tariff-hours) (a .pay) in
+    cut ∙ ap₂ worth rows columns
 
 returns-2 : tie.Need-returns-2
 returns-2 c =
-    let a = c .before .before .before .before .before .before .args in
-    let t = ticketIn (a .n) (a .m) (a .grower-hours) (a .pilot-hours) (a .tariff-cap) (a .tariff-gain) (a .tariff-pay) (a .free-cap)
-    (a .joint-gain) in
-    let x = settlementIn (a .tariff-hours) (a .free-deal-hours) (a .pay) in
-    let o : Origin (a .n) (a .m) (c .before .before .all-growers .result) (c .before .all-pilots .result) (a .tariff-cap) (a .free-cap)
+    let all-pilots = c .before .before in
+    let all-growers = all-pilots .before in
+    let s = all-growers .before .before .before .before in
+    let a = s .args in
+    let t = ticketOf s in
+    let x = settlementOf s in
+    let o : Origin (a .n) (a .m) (all-growers .all-growers .result) (all-pilots .all-pilots .result) (a .tariff-cap) (a .free-cap)
     (a .joint-gain) = record {
       growerHours = a .grower-hours;
       pilotHours = a .pilot-hours;
@@ -33,12 +64,12 @@ returns-2 c =
       tariffHours = a .tariff-hours;
       freeDealHours = a .free-deal-hours;
       pay = a .pay;
-      grower = c .before .before .all-growers .ensures;
-      pilot = c .before .all-pilots .ensures;
+      grower = all-growers .all-growers .ensures;
+      pilot = all-pilots .all-pilots .ensures;
     } in
-    c .judge-parties .ensures o
-    ∙ walk-none (pairFaultAt t x) (a .n * a .m) (byPair (pairVerdict t x) (a .m)) (hoursJudged t x) _
-    (c .before .before .before .before .before .first-pair-fault .ensures) (c .before .before .before .enum-told .given .1)
+    c .judge-parties .ensures o ∙ ap (hoursJudged t x) (worth-is (c .before))
+    ∙ walk-none (pairFaultAt t x) (t .growers * t .pilots) (byPair (pairVerdict t x) (t .pilots)) (hoursJudged t x (worthOf s)) _
+    (all-growers .before .before .before .first-pair-fault .ensures) (all-growers .before .enum-told .given .1)
 
 pub judge-squares-spec : {M : Type 1} → statement M
 judge-squares-spec =
@@ -48,6 +79,7 @@ judge-squares-spec =
     (λ c. search needs)
     returns
     (λ c. search needs)
+    (λ c κs. search needs)
     (λ c κs. search needs)
     (λ c κs. search needs)
     (λ c κs. search needs)

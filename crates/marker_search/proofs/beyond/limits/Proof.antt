@@ -4,10 +4,10 @@ use Rattle.marker_search.proofs.beyond.limits.Statement.{statement}
 use Rattle.marker_search.proofs.beyond.limits.Tie as tie
 
 abbrev Inv-loop : tie.InvT-loop
-Inv-loop ticket tally₀ place₀ tally place = place ≤ 9
+Inv-loop ticket greatest tally₀ length place₀ tally place = place ≤ length
 
 abbrev μ-loop : tie.MeasureT-loop
-μ-loop ticket tally₀ place₀ tally place = 9 - place
+μ-loop ticket greatest tally₀ length place₀ tally place = length - place
 
 pub limits-spec : {M : Type 1} → statement M
 limits-spec =
@@ -15,6 +15,7 @@ limits-spec =
     (tie.spec
     Inv-loop
     μ-loop
+    (λ c κs. search needs)
     (λ c. search needs)
     (λ c. search needs)
     (λ c κs. search needs)

@@ -4,10 +4,10 @@ use Rattle.marker_search.proofs.grids.within_limits.Statement.{statemen
 use Rattle.marker_search.proofs.grids.within_limits.Tie as tie
 
 abbrev Inv-loop : tie.InvT-loop
-Inv-loop ticket tally₀ settlement₀ turn₀ tally settlement turn = turn ≤ 1000
+Inv-loop ticket greatest tally₀ settlement₀ turn₀ tally settlement turn = turn ≤ 10000
 
 abbrev μ-loop : tie.MeasureT-loop
-μ-loop ticket tally₀ settlement₀ turn₀ tally settlement turn = 1000 - turn
+μ-loop ticket greatest tally₀ settlement₀ turn₀ tally settlement turn = 10000 - turn
 
 pub within-limits-spec : {M : Type 1} → statement M
 within-limits-spec =

@@ -8,10 +8,10 @@ use Rattle.sheets.proofs.settled.marked_deals.Statement.{statement}
 use Rattle.sheets.proofs.settled.marked_deals.Tie as tie
 
 returns : tie.Need-returns
-returns c count e = let m = c .before .before .before .mark .ensures .0 in let v = c .before .verdict .given .1 in cc
+returns c count worth e = let m = c .before .before .before .mark .ensures .0 in let v = c .before .verdict .given .1 in cc
 
 returns-2 : tie.Need-returns-2
-returns-2 c count e =
+returns-2 c count worth e =
     let m = c .before .mark .ensures .0 ∙ e in
     absurd (miss (0 ∷ 2 ∷ 3 ∷ 4 ∷ 5 ∷ 6 ∷ 7 ∷ 8 ∷ []) 1 tt (rw m at (c .match .keys2)))
 
