@@ -1,3 +1,5 @@
 pub mod PageWriting
 pub mod Spelling
+pub mod NumeralLaws
 pub mod LineLaws
+pub mod Examples

@@ -1,12 +1,12 @@
--- What is written in two goes is written in one.
+-- What is written in two goes is written in one, in either order, and can be read again.
 -- Assumes nothing.
-use mathlib.Core.Path.{_≡_, refl, _∙_}
-use mathlib.Core.List.{List, [], _∷_, _++_}
-use Prim.Native.Nat.{ℕ, suc, _+_, _≤_, _<_}
+use mathlib.Core.Path.{_≡_, refl, ap, _∙_}
+use mathlib.Core.List.{List, [], _∷_, _++_, append-assoc}
+use Prim.Native.Nat.{ℕ, suc, _+_, _-_, _≤_, _<_}
 use native.Mathlib.Numerals.{add-one}
 use native.Mathlib.Omega.{arith}
-use lib.ListN.{length, set, getD, take, length-append}
-use lib.Seq.{sets, take-suc, take-all, length-take-le}
+use lib.ListN.{length, set, getD, take, drop, length-append}
+use lib.Seq.{sets, sets-eq, length-sets, set-comm, take-suc, take-all, take-at, drop-at, length-take-le}
 use Rattle.bytes.specs.Writing.{Wrote}
 
 pub sets-append : (l : List ℕ) (i : ℕ) (x y : List ℕ) → sets (sets l i x) (i + length x) y ≡ sets l i (x ++ y)
@@ -26,6 +26,31 @@ module _ {l l₁ l₂ : List ℕ} {from at end : ℕ} {x y : List ℕ} where
 
 pub wrote-same : {l l₁ : List ℕ} {from end : ℕ} {x : List ℕ} (y : List ℕ) → x ≡ y → Wrote l l₁ from end x → Wrote l l₁ from end y
 wrote-same y e w = rw (← e) w
+
+pub wrote-length : {l l₁ : List ℕ} {from end : ℕ} {x : List ℕ} → Wrote l l₁ from end x → length l₁ ≡ length l
+wrote-length {l} {l₁} {from} {end} {x} w = ap length (w .stored) ∙ length-sets l from x
+
+-- what was written, read again
+pub wrote-part : {l l₁ : List ℕ} {from end : ℕ} {x : List ℕ} → Wrote l l₁ from end x → end ≤ length l → take (end - from) (drop from l₁) ≡ x
+wrote-part {l} {l₁} {from} {end} {x} w fits =
+    let long : from + length x ≤ length l = omega (arith, w .ends) in
+    let rest = drop (from + length x) l in
+    ap (λ (m : List ℕ). take (end - from) (drop from m)) (w .stored ∙ sets-eq x l from long ∙ append-assoc (take from l) x rest)
+    ∙ ap (take (end - from)) (drop-at (take from l) (x ++ rest) from (length-take-le from l (omega arith)))
+    ∙ take-at x rest (end - from) (omega (arith, w .ends))
+
+-- a byte written before others
+set-before : (l : List ℕ) (i j b : ℕ) (x : List ℕ) → i < j → set (sets l j x) i b ≡ sets (set l i b) j x
+set-before l i j b [] h = refl
+set-before l i j b (a ∷ x) h =
+    set-before (set l j a) i (suc j) b x (omega arith)
+    ∙ ap (λ (m : List ℕ). sets m (suc j) x) (set-comm l j i a b (λ e. omega arith))
+
+pub wrote-before : {l l₁ : List ℕ} {at end : ℕ} {x : List ℕ} → Wrote l l₁ (at + 1) end x → (b : ℕ) → Wrote l (set l₁ at b) at end (b ∷ x)
+wrote-before {l} {l₁} {at} {end} {x} w b = record {
+  stored = rw (w .stored, add-one at) (set-before l at (suc at) b x (omega arith));
+  ends = omega (arith, w .ends);
+}
 
 -- byte by byte: the first k of some bytes
 module _ {l l₁ : List ℕ} {from at : ℕ} (bytes : List ℕ) (k : ℕ) (w : Wrote l l₁ from at (take k bytes)) where

@@ -42,8 +42,8 @@ fn number(line: &mut [u8], at: usize, n: usize) -> usize
     ensures { λ r. ⌜ Wrote (now (line .entry)) (now (line .exit)) at r (decimal n) ⌝ }
 {
     let mut digits = [0u8; 20];
-    let end = io::decimal(n as u64, &mut digits);
-    word(line, at, &digits[..end])
+    let first = bytes::numeral(n, &mut digits);
+    word(line, at, &digits[first..])
 }
 
 // A number and a space.

@@ -5,9 +5,9 @@ use mathlib.Core.Path.{refl}
 use native.Mathlib.Omega.{arith}
 use lib.ListN.{take}
 use borrow.Author.Needs.{needs}
-use Rattle.bytes.proofs.PageWriting.{wrote-nothing, wrote-room, wrote-more, wrote-all}
+use Rattle.bytes.proofs.PageWriting.{wrote-nothing, wrote-length, wrote-room, wrote-more, wrote-all}
 use Rattle.bytes.specs.Writing.{Wrote}
-use Rattle.texts.proofs.LineWriting.{wrote-length, wrote-byte}
+use Rattle.texts.proofs.LineWriting.{wrote-byte}
 use Rattle.texts.proofs.telling.word.Statement.{statement}
 use Rattle.texts.proofs.telling.word.Tie as tie
 
