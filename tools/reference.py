@@ -10,6 +10,7 @@ one. Otherwise a line says what is wrong. So the program is right if `expected` 
 The head of crates/cases/stdin says how the cases are written. Python 3, without packages.
 """
 import fractions
+import functools
 import itertools
 import math
 import sys
@@ -18,6 +19,7 @@ TARIFF, FREE = "tariff", "free"
 ROOM = 8300  # the longest buffer that the program can lend
 LONGEST = 2200  # the longest document that it can read
 SHOWN = 160  # so much of a line is printed again
+DIGITS = 20  # as many as a number of 64 bits can have
 
 
 class Refused(Exception):
@@ -421,6 +423,13 @@ def sheet(data, room, answer):
     return text_reply(settlement.sheet(), room)
 
 
+def numeral(parts):
+    """A number in decimal at the end of DIGITS places, given by its parts of 16 bits."""
+    text = str(functools.reduce(lambda number, part: (number * 2**16 + part) % 2**64, parts, 0))
+    first = DIGITS - len(text)
+    return "  from %d, %d kept: %s\n" % (first, first, text)
+
+
 def no_room(room):
     return "  refused 10, %d kept\n" % room
 
@@ -443,6 +452,11 @@ def answer_to(line, own):
         if operation == "worth":
             return worth_line(lambda: worth(ticket, settlement))
         return account_line(lambda: account(ticket, settlement))
+    if operation == "numeral":
+        parts, _, second = line[len(operation) + 1 :].partition("/")
+        if document(second, list_word):
+            raise NotUnderstood
+        return numeral(document(parts, list_word))
     heads = {"unpack": 1, "pack": 1, "read": 3, "write": 3, "settle": 1, "sheet": 1}
     if operation not in heads or len(words) <= heads[operation]:
         raise NotUnderstood

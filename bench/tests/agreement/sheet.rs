@@ -2,7 +2,7 @@ use exchange_bench::draw::damage::damaged_ticket_file;
 use exchange_bench::draw::generator::Generator;
 use exchange_bench::draw::tickets::any_ticket;
 use exchange_bench::plain::sheet::{room_needed, sheet};
-use exchange_bench::plain::ticket::Ticket;
+use exchange_bench::plain::ticket::{Terms, Ticket};
 use exchange_bench::proved;
 
 use crate::buffers::{Room, same_answer};
@@ -40,4 +40,65 @@ fn sheet_agrees() {
     let refusals = (1..=9).chain([18]);
     tally.expect_kinds(refusals.map(|number| format!("text REFUSED {number}")));
     tally.expect_kinds(kinds(""));
+}
+
+/// Every amount wherever a line has one.
+#[test]
+fn every_amount_is_printed() {
+    for amount in 0..=500 {
+        let other = 500 - amount;
+        assert_eq!(
+            proved_sheet(&by_tariff(amount, other)),
+            format!("SHEET 1 1\n0 0 1 {amount} {other} 0 0 0\nSOUND 2\n"),
+        );
+        assert_eq!(
+            proved_sheet(&by_free_deal(amount, other)),
+            format!("SHEET 2 2\n0 0 0 0 0 1 {amount} {other}\nSOUND 8\n"),
+        );
+    }
+}
+
+fn proved_sheet(ticket: &Ticket) -> String {
+    let bytes = ticket.bytes();
+    let mut text = vec![0; room_needed(&bytes)];
+    let length = proved::sheet(&bytes, &mut text).expect("the ticket is good");
+    text.truncate(length);
+    String::from_utf8(text).expect("a sheet is text")
+}
+
+/// A ticket with one tariff deal, whose hour is flown.
+fn by_tariff(gain: u16, pay: u16) -> Ticket {
+    Ticket {
+        grower_hours: vec![1],
+        pilot_hours: vec![1],
+        terms: vec![Terms {
+            tariff_cap: 1,
+            tariff_gain: gain,
+            tariff_pay: pay,
+            ..Terms::default()
+        }],
+    }
+}
+
+/// A ticket whose first pair flies its hour for just these shares: the other grower offers the pilot no less than his, the
+/// other pilot leaves the grower no less than hers.
+fn by_free_deal(share: u16, pay: u16) -> Ticket {
+    Ticket {
+        grower_hours: vec![1, 1],
+        pilot_hours: vec![1, 1],
+        terms: vec![
+            free_deal(share + pay),
+            free_deal(share),
+            free_deal(pay),
+            Terms::default(),
+        ],
+    }
+}
+
+fn free_deal(joint_gain: u16) -> Terms {
+    Terms {
+        free_cap: 1,
+        joint_gain,
+        ..Terms::default()
+    }
 }

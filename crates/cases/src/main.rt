@@ -21,6 +21,7 @@ use script::no_numbers;
 use settling::account;
 use settling::settle;
 use settling::sheet;
+use writing::numeral;
 use writing::pack;
 use writing::write;
 
@@ -37,6 +38,7 @@ fn run(case: Case, list: &[u16], file: &[u8], other: &[u8]) -> bool {
         Operation::Account => account(file, other),
         Operation::Settle => settle(file, case.room),
         Operation::Sheet => sheet(file, case.room),
+        Operation::Numeral => numeral(list),
         Operation::Unknown => {
             report::not_understood();
             return false;

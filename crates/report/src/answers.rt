@@ -2,6 +2,7 @@
 use super::amount;
 use super::bytes;
 use super::end_line;
+use super::lent::kept_before;
 use super::lent::kept_bytes;
 use super::lent::kept_numbers;
 use super::number;
@@ -80,6 +81,18 @@ pub fn done_text(count: usize, lent: &[u8]) {
     done(count, kept_bytes(lent));
     end_line();
     text(bytes::front(lent, count));
+}
+
+// Digits at the end of what was lent, from a place on, and how many places before them kept their content.
+pub fn done_digits(first: usize, lent: &[u8]) {
+    text(b"  from ");
+    number(first);
+    kept(kept_before(lent));
+    text(b": ");
+    if first < lent.len() {
+        text(&lent[first..]);
+    }
+    end_line();
 }
 
 fn place(x: usize) {

@@ -3,6 +3,7 @@ mod answers;
 mod lent;
 
 pub use answers::done_bytes;
+pub use answers::done_digits;
 pub use answers::done_list;
 pub use answers::done_numbers;
 pub use answers::done_text;
@@ -13,6 +14,7 @@ pub use answers::refused_numbers;
 pub use answers::verdict;
 pub use answers::worth;
 pub use lent::marked_bytes;
+pub use lent::marked_digits;
 pub use lent::marked_numbers;
 
 const OUT: i32 = 1;

@@ -52,7 +52,7 @@ pub fn is_remark(line: &[u8]) -> bool {
 // How many words stand before the documents.
 fn words_before(operation: Operation) -> usize {
     match operation {
-        Operation::Mark | Operation::Worth | Operation::Account => 1,
+        Operation::Mark | Operation::Worth | Operation::Account | Operation::Numeral => 1,
         Operation::Read | Operation::Write => 4,
         _ => 2,
     }
@@ -61,7 +61,7 @@ fn words_before(operation: Operation) -> usize {
 // A list of numbers is in decimal, the bytes of a file are in hexadecimal.
 fn base_of(operation: Operation) -> Base {
     match operation {
-        Operation::Pack | Operation::Write => Base::Ten,
+        Operation::Pack | Operation::Write | Operation::Numeral => Base::Ten,
         _ => Base::Sixteen,
     }
 }
@@ -106,7 +106,9 @@ fn case_of_parties(line: &[u8], operation: Operation, lengths: Lengths) -> Case 
 // A case with the numbers that stand before its documents.
 fn with_numbers(line: &[u8], operation: Operation, lengths: Lengths) -> Case {
     match operation {
-        Operation::Mark | Operation::Worth | Operation::Account => case_of(operation, 0, lengths),
+        Operation::Mark | Operation::Worth | Operation::Account | Operation::Numeral => {
+            case_of(operation, 0, lengths)
+        }
         Operation::Read | Operation::Write => case_of_parties(line, operation, lengths),
         _ => case_of(operation, number_at(line, 1), lengths),
     }

@@ -9,6 +9,7 @@ pub enum Operation {
     Account,
     Settle,
     Sheet,
+    Numeral,
     Unknown,
 }
 
@@ -30,6 +31,8 @@ const ACCOUNT: u64 = 0x61_63_63_6f_75_6e_74;
 const SETTLE: u64 = 0x73_65_74_74_6c_65;
 
 const SHEET: u64 = 0x73_68_65_65_74;
+
+const NUMERAL: u64 = 0x6e_75_6d_65_72_61_6c;
 
 fn with_letter(word: u64, letter: u8) -> u64 {
     word % 0x0100_0000_0000_0000 * 256 + letter as u64
@@ -55,6 +58,7 @@ pub(crate) fn named(word: &[u8]) -> Operation {
         ACCOUNT => Operation::Account,
         SETTLE => Operation::Settle,
         SHEET => Operation::Sheet,
+        NUMERAL => Operation::Numeral,
         _ => Operation::Unknown,
     }
 }

@@ -1,4 +1,3 @@
-pub mod PackedDigits
 pub mod PairLaws
 pub mod SheetLaws
 pub mod PrintLaws

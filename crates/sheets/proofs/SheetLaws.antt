@@ -1,4 +1,4 @@
--- The sheet of a ticket and a sound settlement: its numbers are in the table, and written from squares it is the sheet of the lists.
+-- The sheet of a ticket and a sound settlement: its numbers are small, and written from squares it is the sheet of the lists.
 -- Assumes nothing.
 use mathlib.Core.Path.{_≡_, refl, sym, ap}
 use mathlib.Core.Bool.{Bool, true, false, cond}
@@ -41,7 +41,7 @@ share-small hours gain pay h = go (eqb hours 0)
     go true = omega arith
     go false = omega arith
 
--- eight numbers that are in the table
+-- eight numbers that are at most 500
 all-small : (i j a b c d e f : ℕ) → i ≤ 500 → j ≤ 500 → a ≤ 500 → b ≤ 500 → c ≤ 500 → d ≤ 500 → e ≤ 500 → f ≤ 500 →
     (k : ℕ) → getD (pairNumbers i j a b c d e f) k 0 ≤ 500
 all-small i j a b c d e f hi hj ha hb hc hd he hf zero = hi

@@ -14,6 +14,6 @@ abbrev pub lineIn : Grid → Grid → Grid → Grid → Grid → Grid → ℕ �
 lineIn tariffHours tariffGain tariffPay freeDealHours jointGain pay i j =
     lineIfHours (at tariffHours i j) (at freeDealHours i j) (numbersIn tariffHours tariffGain tariffPay freeDealHours jointGain pay i j)
 
--- every number of every pair of n growers and m pilots is in the table
+-- every number of every pair of n growers and m pilots is at most 500
 abbrev pub Printable : ℕ → ℕ → (ℕ → ℕ → List ℕ) → Type 0
 Printable n m numbers = (i j : ℕ) → i < n → j < m → (k : ℕ) → getD (numbers i j) k 0 ≤ 500

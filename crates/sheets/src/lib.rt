@@ -1,13 +1,12 @@
 // The sheet of a ticket: the ticket settled, as text, or its refusal. It is written into a page of its own and then copied to a lent
 // buffer, which must have room for the longest sheet that the ticket could have.
-mod digits;
 mod lines;
 mod pairs;
 mod settled;
 
 ghost use mathlib.Core.Path.{_≡_};
 ghost use Prim.Native.Nat.{_≤_};
-ghost use lib.ListN.{length, take};
+ghost use lib.ListN.{length};
 ghost use Rattle.grid.specs.Front.{front};
 ghost use Rattle.reader.specs.Walk.{Refusal, Numbers};
 ghost use Rattle.reader.specs.Answer.{unpacked};

@@ -1,4 +1,4 @@
-// Bytes, words and lines, written into a page from a place on. Each function returns the place after what it wrote.
+// Bytes, words, numbers and lines, written into a page from a place on. Each function returns the place after what it wrote.
 ghost use mathlib.Core.Path.{_≡_};
 ghost use mathlib.Core.List.{_∷_, [], _++_};
 ghost use Prim.Native.Nat.{ℕ, _+_, _*_, _<_, _≤_};
@@ -7,10 +7,8 @@ ghost use Rattle.bytes.specs.Decimal.{decimal};
 ghost use Rattle.sheets.specs.Page.{pageBytes};
 ghost use Rattle.bytes.specs.Writing.{Wrote};
 ghost use Rattle.bytes.specs.Lines.{separator, line};
-use crate::digits::amount;
-use crate::digits::count;
 
-pub(crate) fn put(page: &mut [u8; 8216], at: usize, byte: u8) -> usize
+fn put(page: &mut [u8; 8216], at: usize, byte: u8) -> usize
     requires { ⌜ at < pageBytes ⌝ }
     ensures { λ r. ⌜ Wrote (now (page .entry)) (now (page .exit)) at r (byte ∷ []) ⌝ }
 {
@@ -27,6 +25,16 @@ pub(crate) fn word(page: &mut [u8; 8216], at: usize, bytes: &[u8]) -> usize
         here = put(page, here, bytes[k]);
     }
     here
+}
+
+// A number in decimal, be it an amount or a count.
+fn number(page: &mut [u8; 8216], at: usize, n: usize) -> usize
+    requires { ⌜ (n < 1000) × (at + 3 ≤ pageBytes) ⌝ }
+    ensures { λ r. ⌜ Wrote (now (page .entry)) (now (page .exit)) at r (decimal n) ⌝ }
+{
+    let mut digits = [0u8; 20];
+    let first = bytes::numeral(n, &mut digits);
+    word(page, at, &digits[first..])
 }
 
 // What stands after the number at a place of a line.
@@ -46,11 +54,11 @@ fn field(page: &mut [u8; 8216], at: usize, n: u16, end: u8) -> usize
     requires { ⌜ (n ≤ 500) × (at + 4 ≤ pageBytes) ⌝ }
     ensures { λ r. ⌜ Wrote (now (page .entry)) (now (page .exit)) at r (decimal n ++ (end ∷ [])) ⌝ }
 {
-    let next = amount(page, at, n);
+    let next = number(page, at, numbers::index(n));
     put(page, next, end)
 }
 
-// A line of amounts, each of which the table has.
+// A line of amounts.
 pub(crate) fn amounts(page: &mut [u8; 8216], at: usize, numbers: &[u16]) -> usize
     requires { ⌜ ((k : ℕ) → getD (now numbers) k 0 ≤ 500) × (at + 4 * length (now numbers) ≤ pageBytes) ⌝ }
     ensures { λ r. ⌜ Wrote (now (page .entry)) (now (page .exit)) at r (line (now (numbers .entry))) ⌝ }
@@ -62,12 +70,12 @@ pub(crate) fn amounts(page: &mut [u8; 8216], at: usize, numbers: &[u16]) -> usiz
     here
 }
 
-// A line of a word and a number that is no amount.
+// A line of a word and a number, as a count or a refusal.
 pub(crate) fn counted(page: &mut [u8; 8216], at: usize, bytes: &[u8], n: usize) -> usize
     requires { ⌜ (n < 1000) × (at + length (now bytes) + 4 ≤ pageBytes) ⌝ }
     ensures { λ r. ⌜ Wrote (now (page .entry)) (now (page .exit)) at r (now (bytes .entry) ++ line (n ∷ [])) ⌝ }
 {
     let next = word(page, at, bytes);
-    let last = count(page, next, n);
+    let last = number(page, next, n);
     put(page, last, b'\n')
 }

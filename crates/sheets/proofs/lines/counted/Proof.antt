@@ -12,7 +12,7 @@ put-requires c κs =
     omega (
       arith,
       decimal-short (c .before .before .before .before .before .before .args .n),
-      c .before .count .ensures .ends,
+      c .before .number .ensures .ends,
       c .before .before .before .word .ensures .ends,
     )
 
@@ -20,7 +20,7 @@ returns : tie.Need-returns
 returns c =
     wrote-then
     (c .before .before .before .before .word .ensures)
-    (wrote-then (c .before .before .count .ensures) (c .put .ensures))
+    (wrote-then (c .before .before .number .ensures) (c .put .ensures))
 
 pub counted-spec : {M : Type 1} → statement M
 counted-spec = tie.close (tie.spec (λ c κs. search needs) (λ c κs. search needs) put-requires returns)

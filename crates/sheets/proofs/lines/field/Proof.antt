@@ -7,11 +7,16 @@ use Rattle.bytes.proofs.Spelling.{decimal-short}
 use Rattle.sheets.proofs.lines.field.Statement.{statement}
 use Rattle.sheets.proofs.lines.field.Tie as tie
 
+number-requires : tie.Need-number-requires
+number-requires c κs = search needs
+
 put-requires : tie.Need-put-requires
-put-requires c κs = omega (arith, decimal-short (c .before .before .before .args .n), c .before .amount .ensures .ends)
+put-requires c κs =
+    let q = c .before in omega (arith, decimal-short (q .before .index .result), q .number .ensures .ends)
 
 returns : tie.Need-returns
-returns c = wrote-then (c .before .before .amount .ensures) (c .put .ensures)
+returns c =
+    let q = c .before .before in wrote-then (rw (q .before .index .ensures .0) at (q .number .ensures)) (c .put .ensures)
 
 pub field-spec : {M : Type 1} → statement M
-field-spec = tie.close (tie.spec (λ c κs. search needs) put-requires returns)
+field-spec = tie.close (tie.spec (λ c κs. search needs) number-requires put-requires returns)
