@@ -16,7 +16,7 @@ use Rattle.bytes.specs.Writing.{Wrote}
 use Rattle.bytes.proofs.PageWriting.{wrote-nothing, wrote-part, wrote-before, wrote-same}
 use Rattle.bytes.proofs.Spelling.{units-alone, tens-first, hundreds-first, decimal-is}
 
--- leave for more digits makes no difference
+-- room for more digits makes no difference
 same-numeral : (j k n : ℕ) → n ≤ j → n ≤ k → numeralIn j n ≡ numeralIn k n
 unfolding numeralIn
 same-numeral zero zero n hj hk = refl

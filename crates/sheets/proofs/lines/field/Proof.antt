@@ -7,9 +7,6 @@ use Rattle.bytes.proofs.Spelling.{decimal-short}
 use Rattle.sheets.proofs.lines.field.Statement.{statement}
 use Rattle.sheets.proofs.lines.field.Tie as tie
 
-number-requires : tie.Need-number-requires
-number-requires c κs = search needs
-
 put-requires : tie.Need-put-requires
 put-requires c κs =
     let q = c .before in omega (arith, decimal-short (q .before .index .result), q .number .ensures .ends)
@@ -19,4 +16,4 @@ returns c =
     let q = c .before .before in wrote-then (rw (q .before .index .ensures .0) at (q .number .ensures)) (c .put .ensures)
 
 pub field-spec : {M : Type 1} → statement M
-field-spec = tie.close (tie.spec (λ c κs. search needs) number-requires put-requires returns)
+field-spec = tie.close (tie.spec (λ c κs. search needs) (λ c κs. search needs) put-requires returns)
