@@ -1,6 +1,6 @@
 // Rows and squares of numbers: the functions that several crates need. Each answers on every input.
 ghost use mathlib.Core.Path.{_≡_};
-ghost use Prim.Native.Nat.{ℕ, min};
+ghost use Prim.Native.Nat.{ℕ, _-_, min};
 ghost use lib.ListN.{getD};
 ghost use Rattle.grid.specs.Grid.{at, Square, Row};
 ghost use Rattle.grid.specs.Fill.{Filled};
@@ -47,6 +47,26 @@ pub fn turned(sq: [[u16; 16]; 16], rows: usize, columns: usize) -> [[u16; 16]; 1
     for j in 0..height {
         for i in 0..width {
             q[j][i] = sq[i][j];
+        }
+    }
+    q
+}
+
+// The differences of two squares, as far as so many rows and columns reach; 0 where the second is greater.
+pub fn differences(
+    one: [[u16; 16]; 16],
+    other: [[u16; 16]; 16],
+    rows: usize,
+    columns: usize,
+) -> [[u16; 16]; 16]
+    ensures { λ r. ⌜ Filled (λ i j. at one i j - at other i j) (min 16 rows) (min 16 columns) r ⌝ }
+{
+    let height = numbers::within(rows);
+    let width = numbers::within(columns);
+    let mut q = zeros();
+    for i in 0..height {
+        for j in 0..width {
+            q[i][j] = numbers::less(one[i][j], other[i][j]);
         }
     }
     q

@@ -32,8 +32,8 @@ party-is p k own had worth tariff free earned share e h w = rw e (record {
     used = sum-same _ _ k (λ l hl. omega (arith, h Tariff l hl, h Free l hl))
 
 -- a grower of the rows of squares
-module _ (n m : ℕ) (own : List ℕ) (tariffHours freeDealHours tariffGain jointGain pay shares : Grid)
-    (fs : Filled (λ i j. at jointGain i j - at pay i j) n m shares) (i : ℕ) (hi : i < n) where
+module _ (n m : ℕ) (hn : n ≤ 16) (hm : m ≤ 16) (own : List ℕ) (tariffHours freeDealHours tariffGain jointGain pay shares : Grid)
+    (fs : Filled (λ i j. at jointGain i j - at pay i j) (min 16 n) (min 16 m) shares) (i : ℕ) (hi : i < n) where
   grower-had : (e : Deal) (l : ℕ) → lines (getD tariffHours i []) (getD freeDealHours i []) e l ≡
       settlementIn tariffHours freeDealHours pay .hours e i l
   grower-had Tariff l = refl
@@ -42,7 +42,7 @@ module _ (n m : ℕ) (own : List ℕ) (tariffHours freeDealHours tariffGain join
   grower-worth : (e : Deal) (l : ℕ) → l < m → lines (getD tariffGain i []) (getD shares i []) e l ≡
       earnedByGrower (ticketIn n m own [] [] tariffGain [] [] jointGain) (settlementIn tariffHours freeDealHours pay) e i l
   grower-worth Tariff l hl = refl
-  grower-worth Free l hl = fs .inner i l hi hl
+  grower-worth Free l hl = fs .inner i l (omega arith) (omega arith)
 
   pub grower-is : (p : Party) → p ≡ partyAt own tariffHours freeDealHours tariffGain shares m i →
       IsGrower (ticketIn n m own [] [] tariffGain [] [] jointGain) (settlementIn tariffHours freeDealHours pay) i p

@@ -10,8 +10,8 @@ ghost use Rattle.grid.specs.First.{first};
 ghost use Rattle.market.specs.Tables.{ticketIn, settlementIn};
 ghost use Rattle.marker.specs.Tables.{usedIn, partyOf, partyAt, nobody, isOver, IsGrower, IsPilot};
 use crate::Party;
+use grid::differences;
 use grid::turned;
-use numbers::less;
 use numbers::wide;
 
 // A party's hours over all deals.
@@ -104,25 +104,6 @@ fn parties(
     all
 }
 
-// What growers have of an hour of each free deal: the joint gain without the pilot's pay.
-fn grower_shares(
-    n: usize,
-    m: usize,
-    joint_gain: [[u16; 16]; 16],
-    pay: [[u16; 16]; 16],
-) -> [[u16; 16]; 16]
-    requires { ⌜ (n ≤ 16) × (m ≤ 16) ⌝ }
-    ensures { λ r. ⌜ Filled (λ i j. at «joint_gain» i j - at pay i j) n m r ⌝ }
-{
-    let mut q = grid::zeros();
-    for i in 0..n {
-        for j in 0..m {
-            q[i][j] = less(joint_gain[i][j], pay[i][j]);
-        }
-    }
-    q
-}
-
 pub(crate) fn all_growers(
     n: usize,
     m: usize,
@@ -137,7 +118,8 @@ pub(crate) fn all_growers(
     ensures { λ r. ⌜ ((i : ℕ) → i < n → IsGrower (ticketIn n m hours [] [] «tariff_gain» [] [] «joint_gain»)
         (settlementIn «tariff_hours» «free_deal_hours» pay) i (getD r i nobody)) ⌝ }
 {
-    let shares = grower_shares(n, m, joint_gain, pay);
+    // what growers have of an hour of a free deal: the joint gain without the pilot's pay
+    let shares = differences(joint_gain, pay, n, m);
     parties(
         n,
         m,

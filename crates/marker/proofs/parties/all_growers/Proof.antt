@@ -7,8 +7,9 @@ use Rattle.marker.proofs.parties.all_growers.Tie as tie
 returns : tie.Need-returns
 returns c =
     let a = c .before .before .args in
-    λ i hi. grower-is (a .n) (a .m) (a .hours) (a .tariff-hours) (a .free-deal-hours) (a .tariff-gain) (a .joint-gain) (a .pay) _
-    (c .before .grower-shares .ensures) i hi _ (c .parties .ensures i hi)
+    let known = c .before .before .pre in
+    λ i hi. grower-is (a .n) (a .m) (known .0) (known .1) (a .hours) (a .tariff-hours) (a .free-deal-hours) (a .tariff-gain)
+    (a .joint-gain) (a .pay) _ (c .before .differences .ensures) i hi _ (c .parties .ensures i hi)
 
 pub all-growers-spec : {M : Type 1} → statement M
 all-growers-spec = tie.close (tie.spec (λ c κs. search needs) (λ c κs. search needs) returns)
