@@ -16,3 +16,4 @@ pub mod BestTotal
 pub mod PromisedWorth
 pub mod OneGain
 pub mod AccountTotals
+pub mod Certificate

@@ -8,3 +8,4 @@ pub mod Steps
 pub mod Squares
 pub mod Totals
 pub mod Accounts
+pub mod Certificate

@@ -1,0 +1,5 @@
+pub mod EveryLaws
+pub mod LeastLaws
+pub mod Tests
+pub mod Soundness
+pub mod Squares

@@ -1,0 +1,136 @@
+-- What the test of a pair says if it holds.
+-- Assumes nothing.
+use Prim.Native.Nat.{ℕ, _+_, _-_, _≤_, _<_}
+use mathlib.Core.Path.{_≡_, refl}
+use mathlib.Core.Bool.{Bool, true, false, _&&_, _||_}
+use mathlib.Core.Logic.{_⊎_, inl, inr, ⊎-elim}
+use native.Mathlib.Omega.{arith}
+use lib.Dec.{leb, ltb, eqb}
+use borrow.Author.Tests.{leb-true, ltb-true, eqb-true}
+use Rattle.certificate.specs.declared.Party.{Party}
+use Rattle.certificate.specs.Certified.{feasible, worthwhile, oneFull, tariffKept, freeKept, pairKept}
+use Rattle.certificate.proofs.EveryLaws.{both}
+
+either : (a b : Bool) → (a || b) ≡ true → (a ≡ true) ⊎ (b ≡ true)
+either true b e = inl refl
+either false b e = inr e
+
+-- both have a free hour, or at least one has none
+module _ (g p : Party) where
+  full-true : oneFull g p ≡ true → g .used < g .own → p .used < p .own → ⊥
+  full-true e hg hp = ⊎-elim
+      (λ q. omega (arith, leb-true (g .own) (g .used) q))
+      (λ q. omega (arith, leb-true (p .own) (p .used) q))
+      (either (leb (g .own) (g .used)) (leb (p .own) (p .used)) e)
+
+-- a deal that is not at its cap passes the rest of its test, and so does one that has hours where the test is of those
+unfilled : (cap hours : ℕ) (rest : Bool) → (leb cap hours || rest) ≡ true → hours < cap → rest ≡ true
+unfilled cap hours rest e h = ⊎-elim (λ q. absurd (omega (arith, leb-true cap hours q))) (λ q. q) (either (leb cap hours) rest e)
+
+flown : (hours : ℕ) (rest : Bool) → (eqb hours 0 || rest) ≡ true → 0 < hours → rest ≡ true
+flown hours rest e h = ⊎-elim (λ q. absurd (omega (arith, eqb-true hours 0 q))) (λ q. q) (either (eqb hours 0) rest e)
+
+-- what is known of a pair that is kept
+pub record Kept (g p : Party) (tariffCap tariffGain tariffPay freeCap jointGain tariffHours freeDealHours pay : ℕ) : Type 0 where
+  pub grower : g .used ≤ g .own
+  pub pilot : p .used ≤ p .own
+  pub tariffWithin : tariffHours ≤ tariffCap
+  pub freeWithin : freeDealHours ≤ freeCap
+  pub payInGain : pay ≤ jointGain
+  pub payNothing : freeDealHours ≡ 0 → pay ≡ 0
+  pub tariffEarns : 0 < tariffHours → (g .standby ≤ tariffGain) × (p .standby ≤ tariffPay)
+  pub freeEarns : 0 < freeDealHours → (g .standby ≤ jointGain - pay) × (p .standby ≤ pay)
+  pub tariffIdle : tariffHours < tariffCap → g .used < g .own → p .used < p .own → g .standby ≤ tariffGain → p .standby ≤ tariffPay → ⊥
+  pub freeIdle : freeDealHours < freeCap → g .used < g .own → p .used < p .own → g .standby + p .standby ≤ jointGain → ⊥
+  pub tariff : tariffHours < tariffCap → (tariffGain ≤ g .least) ⊎ (tariffPay ≤ p .least)
+  pub free : freeDealHours < freeCap → jointGain ≤ g .least + p .least
+
+module _ (g p : Party) (tariffCap tariffGain tariffPay freeCap jointGain tariffHours freeDealHours pay : ℕ) where
+  abbrev by-tariff : Bool
+  by-tariff = tariffKept g p tariffCap tariffGain tariffPay tariffHours
+
+  abbrev by-free : Bool
+  by-free = freeKept g p freeCap jointGain freeDealHours
+
+  abbrev possible : Bool
+  possible = feasible g p tariffCap freeCap jointGain tariffHours freeDealHours pay
+
+  abbrev earns : Bool
+  earns = worthwhile g p tariffGain tariffPay jointGain tariffHours freeDealHours pay
+
+  possible-true : possible ≡ true → (g .used ≤ g .own) × (p .used ≤ p .own) × (tariffHours ≤ tariffCap) × (freeDealHours ≤ freeCap) ×
+      (pay ≤ jointGain) × (freeDealHours ≡ 0 → pay ≡ 0)
+  possible-true e =
+      let fits = leb (g .used) (g .own) && leb (p .used) (p .own) in
+      let within = leb tariffHours tariffCap && leb freeDealHours freeCap in
+      let nothing = ltb 0 freeDealHours || eqb pay 0 in
+      let e₁ = both (fits && within) (leb pay jointGain && nothing) e in
+      let e₂ = both fits within (e₁ .0) in
+      let hours = both (leb (g .used) (g .own)) (leb (p .used) (p .own)) (e₂ .0) in
+      let caps = both (leb tariffHours tariffCap) (leb freeDealHours freeCap) (e₂ .1) in
+      let pays = both (leb pay jointGain) nothing (e₁ .1) in (
+        leb-true _ _ (hours .0),
+        leb-true _ _ (hours .1),
+        leb-true _ _ (caps .0),
+        leb-true _ _ (caps .1),
+        leb-true _ _ (pays .0),
+        λ none. ⊎-elim (λ q. absurd (omega (arith, ltb-true 0 freeDealHours q))) (λ q. eqb-true pay 0 q)
+            (either (ltb 0 freeDealHours) (eqb pay 0) (pays .1)),
+      )
+
+  earns-true : earns ≡ true → (0 < tariffHours → (g .standby ≤ tariffGain) × (p .standby ≤ tariffPay)) ×
+      (0 < freeDealHours → (g .standby ≤ jointGain - pay) × (p .standby ≤ pay))
+  earns-true e =
+      let tariffs = leb (g .standby) tariffGain && leb (p .standby) tariffPay in
+      let shares = leb (g .standby) (jointGain - pay) && leb (p .standby) pay in
+      let e₁ = both (eqb tariffHours 0 || tariffs) (eqb freeDealHours 0 || shares) e in (
+        λ h. let q = both (leb (g .standby) tariffGain) (leb (p .standby) tariffPay) (flown tariffHours tariffs (e₁ .0) h) in
+            (leb-true _ _ (q .0), leb-true _ _ (q .1)),
+        λ h. let q = both (leb (g .standby) (jointGain - pay)) (leb (p .standby) pay) (flown freeDealHours shares (e₁ .1) h) in
+            (leb-true _ _ (q .0), leb-true _ _ (q .1)),
+      )
+
+  -- an unfilled deal is not idle, and leaves nothing to gain
+  tariff-true : by-tariff ≡ true → tariffHours < tariffCap →
+      ((oneFull g p || (ltb tariffGain (g .standby) || ltb tariffPay (p .standby))) ≡ true) ×
+      ((leb tariffGain (g .least) || leb tariffPay (p .least)) ≡ true)
+  tariff-true e h = both (oneFull g p || (ltb tariffGain (g .standby) || ltb tariffPay (p .standby)))
+      (leb tariffGain (g .least) || leb tariffPay (p .least)) (unfilled tariffCap tariffHours _ e h)
+
+  free-true : by-free ≡ true → freeDealHours < freeCap →
+      ((oneFull g p || ltb jointGain (g .standby + p .standby)) ≡ true) × (leb jointGain (g .least + p .least) ≡ true)
+  free-true e h = both (oneFull g p || ltb jointGain (g .standby + p .standby)) (leb jointGain (g .least + p .least))
+      (unfilled freeCap freeDealHours _ e h)
+
+  pub kept-true : pairKept g p tariffCap tariffGain tariffPay freeCap jointGain tariffHours freeDealHours pay ≡ true →
+      Kept g p tariffCap tariffGain tariffPay freeCap jointGain tariffHours freeDealHours pay
+  kept-true e =
+      let e₁ = both (possible && earns && by-tariff) by-free e in
+      let e₂ = both (possible && earns) by-tariff (e₁ .0) in
+      let e₃ = both possible earns (e₂ .0) in
+      let possibles = possible-true (e₃ .0) in
+      let earning = earns-true (e₃ .1) in
+      let tariffs = tariff-true (e₂ .1) in
+      let frees = free-true (e₁ .1) in
+      record {
+        grower = possibles .0;
+        pilot = possibles .1;
+        tariffWithin = possibles .2;
+        freeWithin = possibles .3;
+        payInGain = possibles .4;
+        payNothing = possibles .5;
+        tariffEarns = earning .0;
+        freeEarns = earning .1;
+        tariffIdle = λ h hg hp wg wp. ⊎-elim
+            (λ q. full-true g p q hg hp)
+            (λ q. ⊎-elim (λ u. omega (arith, ltb-true tariffGain (g .standby) u)) (λ u. omega (arith, ltb-true tariffPay (p .standby) u))
+            (either (ltb tariffGain (g .standby)) (ltb tariffPay (p .standby)) q))
+            (either (oneFull g p) (ltb tariffGain (g .standby) || ltb tariffPay (p .standby)) (tariffs h .0));
+        freeIdle = λ h hg hp w. ⊎-elim
+            (λ q. full-true g p q hg hp)
+            (λ q. omega (arith, ltb-true jointGain (g .standby + p .standby) q))
+            (either (oneFull g p) (ltb jointGain (g .standby + p .standby)) (frees h .0));
+        tariff = λ h. ⊎-elim (λ q. inl (leb-true _ _ q)) (λ q. inr (leb-true _ _ q))
+            (either (leb tariffGain (g .least)) (leb tariffPay (p .least)) (tariffs h .1));
+        free = λ h. leb-true _ _ (frees h .1);
+      }

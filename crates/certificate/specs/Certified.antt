@@ -1,0 +1,95 @@
+-- Whether the least hours of all parties certify a settlement. It is enough for soundness, and quick; it is not needed for soundness, since
+-- a deal's own hours count among those of its parties. Everywhere g and i are growers, p and j pilots.
+-- Assumes nothing.
+use Prim.Native.Nat.{ℕ, zero, suc, _+_, _-_, min}
+use mathlib.Core.Bool.{Bool, true, _&&_, _||_}
+use lib.Dec.{leb, ltb, eqb}
+use Rattle.grid.specs.Pick.{pick}
+use Rattle.grid.specs.Sum.{sum}
+use Rattle.market.specs.declared.Deal.the-variants.{Tariff, Free}
+use Rattle.market.specs.Market.{Ticket, Settlement}
+use Rattle.certificate.specs.declared.Party.{Party}
+
+-- a test holds at every place below k
+unfoldable pub every : (ℕ → Bool) → ℕ → Bool
+every f zero = true
+every f (suc k) = every f k && f k
+
+-- Parties.
+
+-- the lesser of a number and what an hour of a deal earns, if the deal has hours
+abbrev pub lowered : ℕ → ℕ → ℕ → ℕ
+lowered least hours worth = pick (ltb 0 hours) (min least worth) least
+
+-- the least that an hour with one of k partners earns, by the tariff or in the free deal; without any hour, above every amount of 16 bits
+unfoldable pub leastEarned : (tariff earned free share : ℕ → ℕ) → ℕ → ℕ
+leastEarned tariff earned free share zero = 65535
+leastEarned tariff earned free share (suc k) =
+    lowered (lowered (leastEarned tariff earned free share k) (tariff k) (earned k)) (free k) (share k)
+
+-- what each hour of a party is worth to him at least: standby where he has a free hour, else the least that an hour of a deal earns
+abbrev pub leastOf : (own used standby earned : ℕ) → ℕ
+leastOf own used standby earned = pick (ltb used own) standby earned
+
+-- a party by his hours with each of k partners and what they earn him
+abbrev pub partyOf : (own standby : ℕ) (tariff earned free share : ℕ → ℕ) → ℕ → Party
+partyOf own standby tariff earned free share k =
+    let used = sum (λ l. tariff l + free l) k in
+    record { own = own; used = used; standby = standby; least = leastOf own used standby (leastEarned tariff earned free share k) }
+
+-- Pairs, from the numbers of their parties and deals.
+
+-- the hours of both, the caps and the pay are kept
+abbrev pub feasible : (g p : Party) (tariffCap freeCap jointGain tariffHours freeDealHours pay : ℕ) → Bool
+feasible g p tariffCap freeCap jointGain tariffHours freeDealHours pay =
+    (leb (g .used) (g .own) && leb (p .used) (p .own)) && (leb tariffHours tariffCap && leb freeDealHours freeCap) &&
+    (leb pay jointGain && (ltb 0 freeDealHours || eqb pay 0))
+
+-- hours that are flown earn both at least standby
+abbrev pub worthwhile : (g p : Party) (tariffGain tariffPay jointGain tariffHours freeDealHours pay : ℕ) → Bool
+worthwhile g p tariffGain tariffPay jointGain tariffHours freeDealHours pay =
+    (eqb tariffHours 0 || (leb (g .standby) tariffGain && leb (p .standby) tariffPay)) &&
+    (eqb freeDealHours 0 || (leb (g .standby) (jointGain - pay) && leb (p .standby) pay))
+
+-- one of the two has no free hour
+abbrev pub oneFull : Party → Party → Bool
+oneFull g p = leb (g .own) (g .used) || leb (p .own) (p .used)
+
+-- the tariff deal is at its cap; or it is not idle, and brings one of the two no more than his least hour
+abbrev pub tariffKept : (g p : Party) (cap gain pay hours : ℕ) → Bool
+tariffKept g p cap gain pay hours =
+    leb cap hours ||
+    ((oneFull g p || (ltb gain (g .standby) || ltb pay (p .standby))) && (leb gain (g .least) || leb pay (p .least)))
+
+-- the free deal is at its cap; or it is not idle, and brings both together no more than their least hours
+abbrev pub freeKept : (g p : Party) (cap jointGain hours : ℕ) → Bool
+freeKept g p cap jointGain hours =
+    leb cap hours || ((oneFull g p || ltb jointGain (g .standby + p .standby)) && leb jointGain (g .least + p .least))
+
+abbrev pub pairKept : (g p : Party) (tariffCap tariffGain tariffPay freeCap jointGain tariffHours freeDealHours pay : ℕ) → Bool
+pairKept g p tariffCap tariffGain tariffPay freeCap jointGain tariffHours freeDealHours pay =
+    feasible g p tariffCap freeCap jointGain tariffHours freeDealHours pay &&
+    worthwhile g p tariffGain tariffPay jointGain tariffHours freeDealHours pay &&
+    tariffKept g p tariffCap tariffGain tariffPay tariffHours && freeKept g p freeCap jointGain freeDealHours
+
+-- Tickets and settlements.
+
+module _ (t : Ticket) (x : Settlement) where
+  abbrev pub grower : ℕ → Party
+  grower i =
+      partyOf (t .growerHours i) (t .growerStandby i) (x .hours Tariff i) (t .tariffGain i) (x .hours Free i)
+      (λ j. t .jointGain i j - x .pay i j) (t .pilots)
+
+  abbrev pub pilot : ℕ → Party
+  pilot j =
+      partyOf (t .pilotHours j) (t .pilotStandby j) (λ i. x .hours Tariff i j) (λ i. t .tariffPay i j) (λ i. x .hours Free i j)
+      (λ i. x .pay i j) (t .growers)
+
+  abbrev pub kept : ℕ → ℕ → Bool
+  kept i j =
+      pairKept (grower i) (pilot j) (t .tariffCap i j) (t .tariffGain i j) (t .tariffPay i j) (t .freeCap i j) (t .jointGain i j)
+      (x .hours Tariff i j) (x .hours Free i j) (x .pay i j)
+
+  -- every pair is kept
+  abbrev pub certified : Bool
+  certified = every (λ i. every (kept i) (t .pilots)) (t .growers)
