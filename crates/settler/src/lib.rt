@@ -1,5 +1,6 @@
-// The settling of a ticket's file: its numbers are read, the method settles the market that they mean, and the settlement is written.
+// The settling of a ticket's file: its numbers are read, the market that they mean is settled, and the settlement is written.
 mod listing;
+mod squares;
 
 ghost use mathlib.Core.Path.{_≡_};
 ghost use lib.ListN.{length};
@@ -8,6 +9,7 @@ ghost use Rattle.settler.specs.Numbers.{IsTicket, AnswersNumbers, SoundF
 use listing::list_settlement;
 use reader::NO_ROOM;
 use reader::Reply;
+pub use squares::settle_squares;
 use tables::Quantity;
 
 // Lists the numbers of a sound settlement of a ticket. Its squares are filled where they stand: a square that is returned is copied.
@@ -31,7 +33,8 @@ fn list_sound(ticket: &[u16], list: &mut [u16; 771])
     tables::fill(ticket, Quantity::JointGain, &mut joint_gain);
     let mut tariff_hours = grid::zeros();
     let mut free_deal_hours = grid::zeros();
-    let pay = method::settle_squares(
+    let mut pay = grid::zeros();
+    settle_squares(
         growers,
         pilots,
         grower_hours,
@@ -43,8 +46,9 @@ fn list_sound(ticket: &[u16], list: &mut [u16; 771])
         joint_gain,
         &mut tariff_hours,
         &mut free_deal_hours,
+        &mut pay,
     );
-    list_settlement(list, growers, pilots, &tariff_hours, &free_deal_hours, pay);
+    list_settlement(list, growers, pilots, &tariff_hours, &free_deal_hours, &pay);
 }
 
 // Settles a ticket's numbers into a lent buffer, which must have room for the longest settlement that the ticket could have.

@@ -18,10 +18,10 @@ abbrev first-filled : tie.After-fill4 → tie.After-fill
 first-filled c = c .before .before .before .before .before .before .before .before .before
 
 abbrev filled : tie.After-settle-squares → tie.After-fill5
-filled c = c .before .before .before .before .before
+filled c = c .before .before .before .before .before .before .before
 
-abbrev settled : tie.After-free-deal-hours2 → tie.After-settle-squares
-settled c = c .before .before .before
+abbrev settled : tie.After-pay2 → tie.After-settle-squares
+settled c = c .before .before .before .before
 
 few : (c : tie.After-pilots) → (c .before .growers .result ≤ 16) × (c .pilots .result ≤ 16)
 few c =
@@ -58,12 +58,13 @@ returns c =
       jointGainIn = filled-zeros _ _ _ _ _ (q5 .before .before .zeros5 .ensures .1) (q5 .fill5 .ensures);
     }) in
     let l = c .list-settlement .ensures in
-    (l .0, sound-front _ (s .pre .0) _ same _ _ _ (after .settle-squares .ensures .0) _ (l .0) _ _ eg ep (l .1))
+    (l .0, sound-front _ (s .pre .0) _ same _ _ _ (after .settle-squares .ensures) _ (l .0) _ _ eg ep (l .1))
 
 pub list-sound-spec : {M : Type 1} → statement M
 list-sound-spec =
     tie.close
     (tie.spec
+    (λ c κs. search needs)
     (λ c κs. search needs)
     (λ c κs. search needs)
     (λ c κs. search needs)
