@@ -17,6 +17,8 @@ use Rattle.market.specs.Totals.{promisedWorth}
 use Rattle.market.specs.WithoutStandby.{NoStandby}
 use Rattle.market.proofs.Gains.{always-welcome}
 use Rattle.market.proofs.WithoutStandby.{at-least-standby}
+use Rattle.certificate.specs.Certified.{certified}
+use Rattle.certificate.proofs.Soundness.{certified-sound}
 use Rattle.verdicts.specs.declared.Verdict.{Verdict}
 use Rattle.verdicts.specs.declared.Verdict.the-variants.{Sound, TariffOverCap, FreeOverCap, WrongPay, GrowerOverHours, PilotOverHours}
 use Rattle.verdicts.specs.declared.Verdict.the-variants.{Idle, Blocks}
@@ -280,3 +282,8 @@ module _ (t : Ticket) (x : Settlement) where
   -- The same by the verdict's number.
   pub sound-number : NoStandby t → (verdictNumber (judged t x) ≡ 1) ↔ market.Sound t x
   sound-number free = (λ h. passed-iff free .0 (passed h), λ s. rw (passes (passed-iff free .1 s)))
+
+  -- What is certified is judged sound.
+  pub certified-judged : NoStandby t → certified t x ≡ true → (count given : ℕ) → count ≡ 2 * pairs t → given ≡ promisedWorth t (x .hours) →
+      Sound count given ≡ judged t x
+  certified-judged free certain count given ec eg = rw (ec, eg) (sym (sound-exactly free .1 (certified-sound t x certain)))

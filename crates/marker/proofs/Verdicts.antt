@@ -1,6 +1,6 @@
 -- The verdict of each walk, from what its search found.
 -- Assumes nothing.
-use Prim.Native.Nat.{ℕ, _+_, _*_, _<_, _≤_}
+use Prim.Native.Nat.{ℕ, _+_, _*_, _<_, _≤_, min}
 use mathlib.Core.Path.{_≡_, refl, sym, _∙_}
 use mathlib.Core.Bool.{Bool, true, false}
 use native.Mathlib.Omega.{arith}
@@ -119,3 +119,10 @@ module _ (t : Ticket) (x : Settlement) where
 
       pub deal-passed : r ≡ Nothing → none (dealFaultAt t x) (place + 1)
       deal-passed e = none-more _ _ before (found-fails _ _ r (deal-found r f) e)
+
+-- a square reaches as far as at most sixteen growers and pilots
+pub all-within : {A : Type 0} (f : ℕ → ℕ → A) (n m : ℕ) → n ≤ 16 → m ≤ 16 → f (min 16 n) (min 16 m) ≡ f n m
+all-within f n m hn hm =
+    let rows : min 16 n ≡ n = omega arith in
+    let columns : min 16 m ≡ m = omega arith in
+    rw (rows, columns)

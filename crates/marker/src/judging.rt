@@ -11,6 +11,7 @@ use crate::pair_faults::first_pair_fault;
 use crate::parties::all_growers;
 use crate::parties::all_pilots;
 use crate::parties::first_over;
+use certificate::certified;
 use tables::Quantity;
 use tables::square;
 use totals::promised_worth;
@@ -53,7 +54,7 @@ fn judge_parties(
 }
 
 // Pairs: verdicts 2 to 4; then hours and deals.
-fn judge_squares(
+fn judge_exactly(
     n: usize,
     m: usize,
     grower_hours: [u16; 16],
@@ -113,6 +114,59 @@ fn judge_squares(
         free_cap,
         joint_gain,
         worth,
+    )
+}
+
+// What is certified is sound, which is found much sooner; else each fault is looked for in its order.
+fn judge_squares(
+    n: usize,
+    m: usize,
+    grower_hours: [u16; 16],
+    pilot_hours: [u16; 16],
+    tariff_cap: [[u16; 16]; 16],
+    tariff_gain: [[u16; 16]; 16],
+    tariff_pay: [[u16; 16]; 16],
+    free_cap: [[u16; 16]; 16],
+    joint_gain: [[u16; 16]; 16],
+    tariff_hours: [[u16; 16]; 16],
+    free_deal_hours: [[u16; 16]; 16],
+    pay: [[u16; 16]; 16],
+) -> Verdict
+    requires { ⌜ (n ≤ 16) × (m ≤ 16) ⌝ }
+    ensures { λ r. ⌜ r ≡ judged (ticketIn n m «grower_hours» «pilot_hours» «tariff_cap» «tariff_gain» «tariff_pay» «free_cap» «joint_gain»)
+        (settlementIn «tariff_hours» «free_deal_hours» pay) ⌝ }
+{
+    if certified(
+        n,
+        m,
+        grower_hours,
+        pilot_hours,
+        tariff_cap,
+        tariff_gain,
+        tariff_pay,
+        free_cap,
+        joint_gain,
+        tariff_hours,
+        free_deal_hours,
+        pay,
+    ) {
+        let count = 2 * numbers::pairs(n, m);
+        let worth = promised_worth(n, m, tariff_cap, free_deal_hours, joint_gain);
+        return Verdict::Sound { count, worth };
+    }
+    judge_exactly(
+        n,
+        m,
+        grower_hours,
+        pilot_hours,
+        tariff_cap,
+        tariff_gain,
+        tariff_pay,
+        free_cap,
+        joint_gain,
+        tariff_hours,
+        free_deal_hours,
+        pay,
     )
 }
 
