@@ -6,7 +6,10 @@ use offers::Agreed;
 use offers::Terms;
 use offers::free_chance;
 
-// The marked pilots, and every pilot whose free deal offers the grower as much as his least free-deal hour with a marked one, or one less.
+// How many eighteenths less than that a free deal may offer and still tie. Three make the fewest jumps of the slowest tickets found.
+const CLOSE: u32 = 3;
+
+// The marked pilots, and every pilot whose free deal offers the grower as much as his least free-deal hour with a marked one, or little less.
 pub(crate) fn tie_in(
     terms: [Terms; 16],
     agreed: [Agreed; 16],
@@ -16,7 +19,7 @@ pub(crate) fn tie_in(
 ) -> [bool; 16]
     requires { ⌜ pilots ≤ 16 ⌝ }
 {
-    let low = less_wide(least_worth(terms, agreed, price, pilots, marks), 1);
+    let low = less_wide(least_worth(terms, agreed, price, pilots, marks), CLOSE);
     let mut tied = marks;
     for j in 0..pilots {
         if low <= free_chance(terms[j], agreed[j], price[j]) {
