@@ -1,34 +1,37 @@
 -- What is certified is sound: the least hours of all parties make a certificate.
 -- Assumes nothing.
-use Prim.Native.Nat.{ℕ, zero, suc, _-_, _≤_, _<_}
+use Prim.Native.Nat.{ℕ, _-_, _≤_, _<_}
 use mathlib.Core.Path.{_≡_}
-use mathlib.Core.Bool.{true}
+use mathlib.Core.Bool.{true, _&&_}
 use native.Mathlib.Omega.{arith}
-use Rattle.grid.specs.Sum.{sum}
-use Rattle.grid.proofs.Sums.{sum-none}
+use borrow.Author.Tests.{leb-true}
 use Rattle.market.specs.declared.Deal.{Deal}
 use Rattle.market.specs.declared.Deal.the-variants.{Tariff, Free}
 use Rattle.market.specs.Market.{Ticket, Settlement, Fits, GrowerHasFreeHour, PilotHasFreeHour, Idle, Sound}
 use Rattle.market.specs.Market.{cap, earnedByGrower, earnedByPilot}
 use Rattle.market.specs.Certificate.{Certificate}
 use Rattle.market.proofs.Certificate.{certificate-sound}
-use Rattle.certificate.specs.Certified.{grower, pilot, kept, certified}
-use Rattle.certificate.proofs.EveryLaws.{every-at}
+use Rattle.certificate.specs.Certified.{every, grower, pilot, growerFits, pilotFits, kept, certified}
+use Rattle.certificate.proofs.EveryLaws.{both, every-at}
 use Rattle.certificate.proofs.LeastLaws.{party-free-hour, party-tariff, party-free}
 use Rattle.certificate.proofs.Tests.{Kept, kept-true}
-
--- hours over no partners are none
-few : (f : ℕ → ℕ) (k b : ℕ) → (0 < k → sum f k ≤ b) → sum f k ≤ b
-few f zero b h = omega (arith, sum-none f)
-few f (suc k) b h = h (omega arith)
 
 module _ (t : Ticket) (x : Settlement) (yes : certified t x ≡ true) where
   abbrev KeptAt : ℕ → ℕ → Type 0
   KeptAt i j = Kept (grower t x i) (pilot t x j) (t .tariffCap i j) (t .tariffGain i j) (t .tariffPay i j) (t .freeCap i j)
       (t .jointGain i j) (x .hours Tariff i j) (x .hours Free i j) (x .pay i j)
 
+  -- the three parts of the test
+  parts : (every (growerFits t x) (t .growers) ≡ true) × (every (pilotFits t x) (t .pilots) ≡ true) ×
+      (every (λ i. every (kept t x i) (t .pilots)) (t .growers) ≡ true)
+  parts =
+      let e₁ = both (every (growerFits t x) (t .growers) && every (pilotFits t x) (t .pilots))
+      (every (λ i. every (kept t x i) (t .pilots)) (t .growers)) yes in
+      let e₂ = both (every (growerFits t x) (t .growers)) (every (pilotFits t x) (t .pilots)) (e₁ .0) in
+      (e₂ .0, e₂ .1, e₁ .1)
+
   pair : (i j : ℕ) → i < t .growers → j < t .pilots → KeptAt i j
-  pair i j hi hj = kept-true _ _ _ _ _ _ _ _ _ _ (every-at (kept t x i) (t .pilots) j (every-at _ (t .growers) i yes hi) hj)
+  pair i j hi hj = kept-true _ _ _ _ _ _ _ _ _ _ (every-at (kept t x i) (t .pilots) j (every-at _ (t .growers) i (parts .2) hi) hj)
 
   within : (d : Deal) (i j : ℕ) → i < t .growers → j < t .pilots → x .hours d i j ≤ cap t d i j
   within Tariff i j hi hj = pair i j hi hj .tariffWithin
@@ -37,8 +40,8 @@ module _ (t : Ticket) (x : Settlement) (yes : certified t x ≡ true) where
   fits : Fits t (x .hours)
   fits = record {
     deal = within;
-    grower = λ i hi. few _ (t .pilots) _ (λ some. pair i 0 hi some .grower);
-    pilot = λ j hj. few _ (t .growers) _ (λ some. pair 0 j some hj .pilot);
+    grower = λ i hi. leb-true _ _ (every-at _ (t .growers) i (parts .0) hi);
+    pilot = λ j hj. leb-true _ _ (every-at _ (t .pilots) j (parts .1) hj);
   }
 
   grower-earns : (d : Deal) (i j : ℕ) → i < t .growers → j < t .pilots → 0 < x .hours d i j →
@@ -54,7 +57,8 @@ module _ (t : Ticket) (x : Settlement) (yes : certified t x ≡ true) where
   -- no hour is worth less than the least of its owner
   module _ (i : ℕ) (hi : i < t .growers) where
     grower-free : GrowerHasFreeHour t x i → grower t x i .least ≤ t .growerStandby i
-    grower-free = party-free-hour _ _ (x .hours Tariff i) (t .tariffGain i) (x .hours Free i) (λ j. t .jointGain i j - x .pay i j) (t .pilots)
+    grower-free h = party-free-hour _ _ (x .hours Tariff i) (t .tariffGain i) (x .hours Free i) (λ j. t .jointGain i j - x .pay i j)
+        (t .pilots) (omega arith)
 
     grower-hour : (d : Deal) (j : ℕ) → j < t .pilots → 0 < x .hours d i j → grower t x i .least ≤ earnedByGrower t x d i j
     grower-hour Tariff j hj some = party-tariff _ _ (x .hours Tariff i) (t .tariffGain i) (x .hours Free i)
@@ -64,7 +68,8 @@ module _ (t : Ticket) (x : Settlement) (yes : certified t x ≡ true) where
 
   module _ (j : ℕ) (hj : j < t .pilots) where
     pilot-free : PilotHasFreeHour t x j → pilot t x j .least ≤ t .pilotStandby j
-    pilot-free = party-free-hour _ _ (λ k. x .hours Tariff k j) (λ k. t .tariffPay k j) (λ k. x .hours Free k j) (λ k. x .pay k j) (t .growers)
+    pilot-free h = party-free-hour _ _ (λ k. x .hours Tariff k j) (λ k. t .tariffPay k j) (λ k. x .hours Free k j) (λ k. x .pay k j)
+        (t .growers) (omega arith)
 
     pilot-hour : (d : Deal) (i : ℕ) → i < t .growers → 0 < x .hours d i j → pilot t x j .least ≤ earnedByPilot t x d i j
     pilot-hour Tariff i hi some = party-tariff _ _ (λ k. x .hours Tariff k j) (λ k. t .tariffPay k j) (λ k. x .hours Free k j)
@@ -74,8 +79,9 @@ module _ (t : Ticket) (x : Settlement) (yes : certified t x ≡ true) where
 
   not-idle : (d : Deal) (i j : ℕ) → i < t .growers → j < t .pilots → ¬ Idle t x d i j
   not-idle Tariff i j hi hj idle =
-      pair i j hi hj .tariffIdle (idle .unfilled) (idle .grower) (idle .pilot) (idle .welcome .0) (idle .welcome .1)
-  not-idle Free i j hi hj idle = pair i j hi hj .freeIdle (idle .unfilled) (idle .grower) (idle .pilot) (idle .welcome)
+      pair i j hi hj .tariffIdle (idle .unfilled) (omega (arith, idle .grower)) (omega (arith, idle .pilot)) (idle .welcome .0) (idle .welcome .1)
+  not-idle Free i j hi hj idle = pair i j hi hj .freeIdle (idle .unfilled) (omega (arith, idle .grower)) (omega (arith, idle .pilot))
+      (idle .welcome)
 
   pub certificate : Certificate t x (λ i. grower t x i .least) (λ j. pilot t x j .least)
   certificate = record {

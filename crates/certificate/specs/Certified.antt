@@ -2,12 +2,12 @@
 -- a deal's own hours count among those of its parties. Everywhere g and i are growers, p and j pilots.
 -- Assumes nothing.
 use Prim.Native.Nat.{ℕ, zero, suc, _+_, _-_, min}
-use mathlib.Core.Bool.{Bool, true, _&&_, _||_}
+use mathlib.Core.Bool.{Bool, true, not, _&&_, _||_}
 use lib.Dec.{leb, ltb, eqb}
 use Rattle.grid.specs.Pick.{pick}
 use Rattle.grid.specs.Sum.{sum}
 use Rattle.market.specs.declared.Deal.the-variants.{Tariff, Free}
-use Rattle.market.specs.Market.{Ticket, Settlement}
+use Rattle.market.specs.Market.{Ticket, Settlement, usedByGrower, usedByPilot}
 use Rattle.certificate.specs.declared.Party.{Party}
 
 -- a test holds at every place below k
@@ -17,33 +17,32 @@ every f (suc k) = every f k && f k
 
 -- Parties.
 
--- the lesser of a number and what an hour of a deal earns, if the deal has hours
-abbrev pub lowered : ℕ → ℕ → ℕ → ℕ
-lowered least hours worth = pick (ltb 0 hours) (min least worth) least
+-- what an hour of a deal earns, if the deal has hours; else above every amount of 16 bits
+abbrev pub worthOf : ℕ → ℕ → ℕ
+worthOf hours earned = pick (ltb 0 hours) earned 65535
 
--- the least that an hour with one of k partners earns, by the tariff or in the free deal; without any hour, above every amount of 16 bits
+-- the least that an hour with one of k partners earns, by the tariff or in the free deal
 unfoldable pub leastEarned : (tariff earned free share : ℕ → ℕ) → ℕ → ℕ
 leastEarned tariff earned free share zero = 65535
 leastEarned tariff earned free share (suc k) =
-    lowered (lowered (leastEarned tariff earned free share k) (tariff k) (earned k)) (free k) (share k)
+    min (leastEarned tariff earned free share k) (min (worthOf (tariff k) (earned k)) (worthOf (free k) (share k)))
 
 -- what each hour of a party is worth to him at least: standby where he has a free hour, else the least that an hour of a deal earns
-abbrev pub leastOf : (own used standby earned : ℕ) → ℕ
-leastOf own used standby earned = pick (ltb used own) standby earned
+abbrev pub leastOf : (unused standby earned : ℕ) → ℕ
+leastOf unused standby earned = pick (ltb 0 unused) standby earned
 
--- a party by his hours with each of k partners and what they earn him
+-- a party by his own hours, his hours with each of k partners, and what they earn him
 abbrev pub partyOf : (own standby : ℕ) (tariff earned free share : ℕ → ℕ) → ℕ → Party
 partyOf own standby tariff earned free share k =
-    let used = sum (λ l. tariff l + free l) k in
-    record { own = own; used = used; standby = standby; least = leastOf own used standby (leastEarned tariff earned free share k) }
+    let unused = own - sum (λ l. tariff l + free l) k in
+    record { free = unused; standby = standby; least = leastOf unused standby (leastEarned tariff earned free share k) }
 
 -- Pairs, from the numbers of their parties and deals.
 
--- the hours of both, the caps and the pay are kept
-abbrev pub feasible : (g p : Party) (tariffCap freeCap jointGain tariffHours freeDealHours pay : ℕ) → Bool
-feasible g p tariffCap freeCap jointGain tariffHours freeDealHours pay =
-    (leb (g .used) (g .own) && leb (p .used) (p .own)) && (leb tariffHours tariffCap && leb freeDealHours freeCap) &&
-    (leb pay jointGain && (ltb 0 freeDealHours || eqb pay 0))
+-- the caps and the pay are kept
+abbrev pub feasible : (tariffCap freeCap jointGain tariffHours freeDealHours pay : ℕ) → Bool
+feasible tariffCap freeCap jointGain tariffHours freeDealHours pay =
+    (leb tariffHours tariffCap && leb freeDealHours freeCap) && (leb pay jointGain && (ltb 0 freeDealHours || eqb pay 0))
 
 -- hours that are flown earn both at least standby
 abbrev pub worthwhile : (g p : Party) (tariffGain tariffPay jointGain tariffHours freeDealHours pay : ℕ) → Bool
@@ -53,7 +52,7 @@ worthwhile g p tariffGain tariffPay jointGain tariffHours freeDealHours pay =
 
 -- one of the two has no free hour
 abbrev pub oneFull : Party → Party → Bool
-oneFull g p = leb (g .own) (g .used) || leb (p .own) (p .used)
+oneFull g p = eqb (g .free) 0 || eqb (p .free) 0
 
 -- the tariff deal is at its cap; or it is not idle, and brings one of the two no more than his least hour
 abbrev pub tariffKept : (g p : Party) (cap gain pay hours : ℕ) → Bool
@@ -64,11 +63,11 @@ tariffKept g p cap gain pay hours =
 -- the free deal is at its cap; or it is not idle, and brings both together no more than their least hours
 abbrev pub freeKept : (g p : Party) (cap jointGain hours : ℕ) → Bool
 freeKept g p cap jointGain hours =
-    leb cap hours || ((oneFull g p || ltb jointGain (g .standby + p .standby)) && leb jointGain (g .least + p .least))
+    leb cap hours || ((oneFull g p || not (leb (g .standby + p .standby) jointGain)) && leb jointGain (g .least + p .least))
 
 abbrev pub pairKept : (g p : Party) (tariffCap tariffGain tariffPay freeCap jointGain tariffHours freeDealHours pay : ℕ) → Bool
 pairKept g p tariffCap tariffGain tariffPay freeCap jointGain tariffHours freeDealHours pay =
-    feasible g p tariffCap freeCap jointGain tariffHours freeDealHours pay &&
+    feasible tariffCap freeCap jointGain tariffHours freeDealHours pay &&
     worthwhile g p tariffGain tariffPay jointGain tariffHours freeDealHours pay &&
     tariffKept g p tariffCap tariffGain tariffPay tariffHours && freeKept g p freeCap jointGain freeDealHours
 
@@ -85,11 +84,18 @@ module _ (t : Ticket) (x : Settlement) where
       partyOf (t .pilotHours j) (t .pilotStandby j) (λ i. x .hours Tariff i j) (λ i. t .tariffPay i j) (λ i. x .hours Free i j)
       (λ i. x .pay i j) (t .growers)
 
+  -- nobody is over his hours
+  abbrev pub growerFits : ℕ → Bool
+  growerFits i = leb (usedByGrower t (x .hours) i) (t .growerHours i)
+
+  abbrev pub pilotFits : ℕ → Bool
+  pilotFits j = leb (usedByPilot t (x .hours) j) (t .pilotHours j)
+
   abbrev pub kept : ℕ → ℕ → Bool
   kept i j =
       pairKept (grower i) (pilot j) (t .tariffCap i j) (t .tariffGain i j) (t .tariffPay i j) (t .freeCap i j) (t .jointGain i j)
       (x .hours Tariff i j) (x .hours Free i j) (x .pay i j)
 
-  -- every pair is kept
+  -- everybody's hours fit, and every pair is kept
   abbrev pub certified : Bool
-  certified = every (λ i. every (kept i) (t .pilots)) (t .growers)
+  certified = every growerFits (t .growers) && every pilotFits (t .pilots) && every (λ i. every (kept i) (t .pilots)) (t .growers)

@@ -1,5 +1,6 @@
 // The test whether the least hours of all parties certify a settlement. It is quick, and enough for soundness. Squares are of growers by
-// pilots and go by value.
+// pilots and go by value. Every loop over partners goes over all sixteen places of its rows, so that it becomes vector code; a row says
+// who is absent.
 mod pairs;
 mod parties;
 
@@ -10,16 +11,23 @@ ghost use Rattle.certificate.specs.Certified.{certified};
 use grid::differences;
 use grid::turned;
 use grid::zero_row;
-use pairs::row_kept;
-use parties::parties;
+use pairs::rows_kept;
+use parties::absent;
+use parties::side;
 
-// A grower or a pilot: his own hours, those that he has in deals, what a free hour is worth to him, and what each hour of his is worth to
-// him at least.
+// A grower or a pilot: his free hours, what one is worth to him, and what each hour of his is worth to him at least.
 pub(crate) struct Party {
-    pub(crate) own: u32,
-    pub(crate) used: u32,
+    pub(crate) free: u16,
     pub(crate) standby: u16,
     pub(crate) least: u16,
+}
+
+// All growers, or all pilots, in rows; and whether nobody of them is over his hours.
+pub(crate) struct Side {
+    pub(crate) fits: bool,
+    pub(crate) free: [u16; 16],
+    pub(crate) standby: [u16; 16],
+    pub(crate) least: [u16; 16],
 }
 
 // Whether a settlement of the market of the first growers and pilots, at most 16 of each, is certified.
@@ -44,20 +52,20 @@ pub fn certified(
     let n = numbers::within(growers);
     let m = numbers::within(pilots);
     let none = zero_row();
-    let shares = differences(joint_gain, pay, n, m);
-    let g = parties(
+    let no_pilot = absent(m);
+    let of_growers = side(
         n,
-        m,
+        no_pilot,
         grower_hours,
         none,
         tariff_hours,
         tariff_gain,
         free_deal_hours,
-        shares,
+        differences(joint_gain, pay, n, m),
     );
-    let p = parties(
+    let of_pilots = side(
         m,
-        n,
+        absent(n),
         pilot_hours,
         none,
         turned(tariff_hours, n, m),
@@ -65,22 +73,20 @@ pub fn certified(
         turned(free_deal_hours, n, m),
         turned(pay, n, m),
     );
-    let mut kept = true;
-    for i in 0..n {
-        kept = kept
-            & row_kept(
-                g[i],
-                p,
-                m,
-                tariff_cap[i],
-                tariff_gain[i],
-                tariff_pay[i],
-                free_cap[i],
-                joint_gain[i],
-                tariff_hours[i],
-                free_deal_hours[i],
-                pay[i],
-            );
-    }
-    kept
+    of_growers.fits
+        & of_pilots.fits
+        & rows_kept(
+            n,
+            of_growers,
+            of_pilots,
+            no_pilot,
+            tariff_cap,
+            tariff_gain,
+            tariff_pay,
+            free_cap,
+            joint_gain,
+            tariff_hours,
+            free_deal_hours,
+            pay,
+        )
 }

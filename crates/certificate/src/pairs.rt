@@ -1,16 +1,16 @@
-// Whether the deals of a grower and a pilot are as a certificate wants them. Tests are joined without branches, which is quicker.
+// Whether the deals of growers and pilots are as a certificate wants them. Tests are joined without branches, and sums are avoided, so that
+// all of it stays in rows of 16 bits.
 ghost use mathlib.Core.Path.{_≡_};
-ghost use Prim.Native.Nat.{_≤_};
+ghost use Prim.Native.Nat.{_+_, _<_, _≤_};
+ghost use lib.Dec.{leb};
 ghost use Rattle.certificate.specs.Certified.{feasible, worthwhile, tariffKept, freeKept, pairKept};
-ghost use Rattle.certificate.specs.Rows.{rowKept};
+ghost use Rattle.certificate.specs.Rows.{partyIn, rowKept, rowsKept};
 use crate::Party;
+use crate::Side;
 use numbers::less;
-use numbers::wide;
 
-// The hours of both, the caps and the pay are kept.
+// The caps and the pay are kept.
 fn feasible(
-    grower: Party,
-    pilot: Party,
     tariff_cap: u16,
     free_cap: u16,
     joint_gain: u16,
@@ -18,12 +18,11 @@ fn feasible(
     free_deal_hours: u16,
     pay: u16,
 ) -> bool
-    ensures { λ r. ⌜ r ≡ feasible grower pilot «tariff_cap» «free_cap» «joint_gain» «tariff_hours» «free_deal_hours» pay ⌝ }
+    ensures { λ r. ⌜ r ≡ feasible «tariff_cap» «free_cap» «joint_gain» «tariff_hours» «free_deal_hours» pay ⌝ }
 {
-    let fits = (grower.used <= grower.own) & (pilot.used <= pilot.own);
     let within = (tariff_hours <= tariff_cap) & (free_deal_hours <= free_cap);
     let split = (pay <= joint_gain) & ((0 < free_deal_hours) | (pay == 0));
-    fits & within & split
+    within & split
 }
 
 // Hours that are flown earn both at least standby.
@@ -48,20 +47,33 @@ fn worthwhile(
 fn tariff_kept(grower: Party, pilot: Party, cap: u16, gain: u16, pay: u16, hours: u16) -> bool
     ensures { λ r. ⌜ r ≡ tariffKept grower pilot cap gain pay hours ⌝ }
 {
-    let full = (grower.own <= grower.used) | (pilot.own <= pilot.used);
+    let full = (grower.free == 0) | (pilot.free == 0);
     let unwelcome = (gain < grower.standby) | (pay < pilot.standby);
     let content = (gain <= grower.least) | (pay <= pilot.least);
     (cap <= hours) | ((full | unwelcome) & content)
+}
+
+// A gain is at least as much as two numbers together, and at most.
+fn at_least_both(gain: u16, one: u16, other: u16) -> bool
+    ensures { λ r. ⌜ r ≡ leb (one + other) gain ⌝ }
+{
+    (one <= gain) & (other <= less(gain, one))
+}
+
+fn at_most_both(gain: u16, one: u16, other: u16) -> bool
+    ensures { λ r. ⌜ r ≡ leb gain (one + other) ⌝ }
+{
+    less(gain, one) <= other
 }
 
 // The free deal is at its cap; or it is not idle, and brings both together no more than their least hours.
 fn free_kept(grower: Party, pilot: Party, cap: u16, joint_gain: u16, hours: u16) -> bool
     ensures { λ r. ⌜ r ≡ freeKept grower pilot cap «joint_gain» hours ⌝ }
 {
-    let full = (grower.own <= grower.used) | (pilot.own <= pilot.used);
-    let unwelcome = wide(joint_gain) < wide(grower.standby) + wide(pilot.standby);
-    let content = wide(joint_gain) <= wide(grower.least) + wide(pilot.least);
-    (cap <= hours) | ((full | unwelcome) & content)
+    let full = (grower.free == 0) | (pilot.free == 0);
+    let welcome = at_least_both(joint_gain, grower.standby, pilot.standby);
+    let content = at_most_both(joint_gain, grower.least, pilot.least);
+    (cap <= hours) | ((full | !welcome) & content)
 }
 
 fn pair_kept(
@@ -80,8 +92,6 @@ fn pair_kept(
         «tariff_hours» «free_deal_hours» pay ⌝ }
 {
     let possible = feasible(
-        grower,
-        pilot,
         tariff_cap,
         free_cap,
         joint_gain,
@@ -112,11 +122,23 @@ fn pair_kept(
         & free_kept(grower, pilot, free_cap, joint_gain, free_deal_hours)
 }
 
-// The same of a grower and so many pilots, by the grower's rows.
-pub(crate) fn row_kept(
+// One of sixteen parties.
+fn party_in(side: Side, p: usize) -> Party
+    requires { ⌜ p < 16 ⌝ }
+    ensures { λ r. ⌜ r ≡ partyIn side p ⌝ }
+{
+    Party {
+        free: side.free[p],
+        standby: side.standby[p],
+        least: side.least[p],
+    }
+}
+
+// The pairs of a grower and the pilots who are there, by the grower's rows.
+fn row_kept(
     grower: Party,
-    pilots: [Party; 16],
-    count: usize,
+    pilots: Side,
+    absent: [u16; 16],
     tariff_cap: [u16; 16],
     tariff_gain: [u16; 16],
     tariff_pay: [u16; 16],
@@ -126,24 +148,62 @@ pub(crate) fn row_kept(
     free_deal_hours: [u16; 16],
     pay: [u16; 16],
 ) -> bool
-    requires { ⌜ count ≤ 16 ⌝ }
-    ensures { λ r. ⌜ r ≡ rowKept grower pilots count «tariff_cap» «tariff_gain» «tariff_pay» «free_cap» «joint_gain»
-        «tariff_hours» «free_deal_hours» pay ⌝ }
+    ensures { λ r. ⌜ r ≡ rowKept grower pilots absent «tariff_cap» «tariff_gain» «tariff_pay» «free_cap» «joint_gain»
+        «tariff_hours» «free_deal_hours» pay 16 ⌝ }
 {
     let mut kept = true;
-    for j in 0..count {
+    for j in 0..numbers::SIDE {
+        let this = pair_kept(
+            grower,
+            party_in(pilots, j),
+            tariff_cap[j],
+            tariff_gain[j],
+            tariff_pay[j],
+            free_cap[j],
+            joint_gain[j],
+            tariff_hours[j],
+            free_deal_hours[j],
+            pay[j],
+        );
+        kept = kept & ((0 < absent[j]) | this);
+    }
+    kept
+}
+
+// The same of the first so many growers, by squares.
+pub(crate) fn rows_kept(
+    count: usize,
+    growers: Side,
+    pilots: Side,
+    absent: [u16; 16],
+    tariff_cap: [[u16; 16]; 16],
+    tariff_gain: [[u16; 16]; 16],
+    tariff_pay: [[u16; 16]; 16],
+    free_cap: [[u16; 16]; 16],
+    joint_gain: [[u16; 16]; 16],
+    tariff_hours: [[u16; 16]; 16],
+    free_deal_hours: [[u16; 16]; 16],
+    pay: [[u16; 16]; 16],
+) -> bool
+    requires { ⌜ count ≤ 16 ⌝ }
+    ensures { λ r. ⌜ r ≡ rowsKept growers pilots absent «tariff_cap» «tariff_gain» «tariff_pay» «free_cap» «joint_gain»
+        «tariff_hours» «free_deal_hours» pay count ⌝ }
+{
+    let mut kept = true;
+    for i in 0..count {
         kept = kept
-            & pair_kept(
-                grower,
-                pilots[j],
-                tariff_cap[j],
-                tariff_gain[j],
-                tariff_pay[j],
-                free_cap[j],
-                joint_gain[j],
-                tariff_hours[j],
-                free_deal_hours[j],
-                pay[j],
+            & row_kept(
+                party_in(growers, i),
+                pilots,
+                absent,
+                tariff_cap[i],
+                tariff_gain[i],
+                tariff_pay[i],
+                free_cap[i],
+                joint_gain[i],
+                tariff_hours[i],
+                free_deal_hours[i],
+                pay[i],
             );
     }
     kept

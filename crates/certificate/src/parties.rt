@@ -1,99 +1,118 @@
 // What everybody's hours are worth to him at least.
 ghost use mathlib.Core.Path.{_≡_};
-ghost use Prim.Native.Nat.{ℕ, _<_, _≤_};
-ghost use lib.ListN.{getD, length};
-ghost use Rattle.certificate.specs.Certified.{lowered, leastOf, partyOf};
-ghost use Rattle.certificate.specs.Rows.{line, nobody, partyAt};
-use crate::Party;
+ghost use Prim.Native.Nat.{_≤_};
+ghost use Rattle.certificate.specs.Certified.{worthOf, leastOf};
+ghost use Rattle.certificate.specs.Rows.{absentAt, Absent, shown, usedIn, leastIn, IsSide};
+use crate::Side;
+use grid::zero_row;
+use numbers::left;
+use numbers::lesser;
 use numbers::wide;
 
-// The least of a party without any hour: above every amount.
+// What an hour is worth where there is none: above every amount.
 const NO_HOUR: u16 = 65535;
 
-// The lesser of a number and what an hour of a deal earns, if the deal has hours.
-fn lowered(least: u16, hours: u16, worth: u16) -> u16
-    ensures { λ r. ⌜ r ≡ lowered least hours worth ⌝ }
+// Whether a partner is not one of the first so many, as a number.
+fn is_absent(count: usize, l: usize) -> u16
+    ensures { λ r. ⌜ r ≡ absentAt count l ⌝ }
 {
-    if 0 < hours {
-        if worth < least { worth } else { least }
-    } else {
-        least
+    if l < count { 0 } else { 1 }
+}
+
+// The same of sixteen.
+pub(crate) fn absent(count: usize) -> [u16; 16]
+    ensures { λ r. ⌜ Absent count r ⌝ }
+{
+    let mut row = zero_row();
+    for l in 0..numbers::SIDE {
+        row[l] = is_absent(count, l);
     }
+    row
+}
+
+// Hours with a partner, if he is there.
+fn shown(absent: u16, hours: u16) -> u16
+    ensures { λ r. ⌜ r ≡ shown absent hours ⌝ }
+{
+    if 0 < absent { 0 } else { hours }
+}
+
+// What an hour of a deal earns, if the deal has hours.
+fn worth_of(hours: u16, earned: u16) -> u16
+    ensures { λ r. ⌜ r ≡ worthOf hours earned ⌝ }
+{
+    if 0 < hours { earned } else { NO_HOUR }
 }
 
 // The worth of a free hour, where there is one, else the least that an hour of a deal earns.
-fn least_of(own: u32, used: u32, standby: u16, earned: u16) -> u16
-    ensures { λ r. ⌜ r ≡ leastOf own used standby earned ⌝ }
+fn least_of(free: u16, standby: u16, earned: u16) -> u16
+    ensures { λ r. ⌜ r ≡ leastOf «free» standby earned ⌝ }
 {
-    if used < own { standby } else { earned }
+    if 0 < free { standby } else { earned }
 }
 
-// A party by his rows, a number for each partner: hours by the tariff and what one earns him, hours of free deals and his share of one.
-fn party(
-    own: u16,
-    standby: u16,
+// A party's hours over all deals.
+fn used(absent: [u16; 16], tariff: [u16; 16], free: [u16; 16]) -> u32
+    ensures { λ r. ⌜ r ≡ usedIn absent tariff «free» 16 ⌝ }
+{
+    let mut total: u32 = 0;
+    for l in 0..numbers::SIDE {
+        let no_one = absent[l];
+        total += wide(shown(no_one, tariff[l])) + wide(shown(no_one, free[l]));
+    }
+    total
+}
+
+// The least that an hour of a deal earns a party.
+fn least_earned(
+    absent: [u16; 16],
     tariff: [u16; 16],
     earned: [u16; 16],
     free: [u16; 16],
     share: [u16; 16],
-    partners: usize,
-) -> Party
-    requires { ⌜ partners ≤ 16 ⌝ }
-    ensures { λ r. ⌜ r ≡ partyOf own standby (line tariff) (line earned) (line free) (line share) partners ⌝ }
+) -> u16
+    ensures { λ r. ⌜ r ≡ leastIn absent tariff earned «free» share 16 ⌝ }
 {
-    let mut used: u32 = 0;
     let mut least = NO_HOUR;
-    for l in 0..partners {
-        used += wide(tariff[l]) + wide(free[l]);
-        least = lowered(least, tariff[l], earned[l]);
-        least = lowered(least, free[l], share[l]);
+    for l in 0..numbers::SIDE {
+        let no_one = absent[l];
+        let by_tariff = worth_of(shown(no_one, tariff[l]), earned[l]);
+        let in_free_deal = worth_of(shown(no_one, free[l]), share[l]);
+        least = lesser(least, lesser(by_tariff, in_free_deal));
     }
-    let own = wide(own);
-    Party {
-        own,
-        used,
-        standby,
-        least: least_of(own, used, standby, least),
-    }
+    least
 }
 
-fn no_parties() -> [Party; 16]
-    ensures { λ r. ⌜ length r ≡ 16 ⌝ }
-{
-    let none = Party {
-        own: 0,
-        used: 0,
-        standby: 0,
-        least: 0,
-    };
-    [none; 16]
-}
-
-// The parties of one side, with so many partners on the other, by their rows in four squares.
-pub(crate) fn parties(
+// The first so many parties of one side by their rows in four squares: hours by the tariff and what one earns, hours of free deals and the
+// share of one.
+pub(crate) fn side(
     count: usize,
-    partners: usize,
+    absent: [u16; 16],
     own: [u16; 16],
     standby: [u16; 16],
     tariff: [[u16; 16]; 16],
     earned: [[u16; 16]; 16],
     free: [[u16; 16]; 16],
     share: [[u16; 16]; 16],
-) -> [Party; 16]
-    requires { ⌜ (count ≤ 16) × (partners ≤ 16) ⌝ }
-    ensures { λ r. ⌜ ((p : ℕ) → p < count → getD r p nobody ≡ partyAt own standby tariff earned «free» share partners p) ⌝ }
+) -> Side
+    requires { ⌜ count ≤ 16 ⌝ }
+    ensures { λ r. ⌜ IsSide count absent own standby tariff earned «free» share r ⌝ }
 {
-    let mut all = no_parties();
+    let mut fits = true;
+    let mut unused = zero_row();
+    let mut least = zero_row();
     for p in 0..count {
-        all[p] = party(
-            own[p],
-            standby[p],
-            tariff[p],
-            earned[p],
-            free[p],
-            share[p],
-            partners,
-        );
+        let total = used(absent, tariff[p], free[p]);
+        let hours = left(own[p], total);
+        let lowest = least_earned(absent, tariff[p], earned[p], free[p], share[p]);
+        fits = fits & (total <= wide(own[p]));
+        unused[p] = hours;
+        least[p] = least_of(hours, standby[p], lowest);
     }
-    all
+    Side {
+        fits,
+        free: unused,
+        standby,
+        least,
+    }
 }

@@ -1,7 +1,6 @@
 // Hours come into a deal or leave it.
 use crate::saturating::ALL;
 use crate::saturating::greater;
-use crate::saturating::lesser;
 use crate::saturating::plus;
 use crate::sets::first;
 use crate::state::ABOVE_PRICES;
@@ -29,6 +28,7 @@ use crate::state::places_of;
 use crate::state::put;
 use crate::state::set;
 use numbers::less;
+use numbers::lesser;
 
 pub(crate) fn more_free_deal(s: &mut State, i: usize, j: usize, x: u16) {
     let hours = plus(get(s, FREE_DEAL_HOURS, i, j), x);

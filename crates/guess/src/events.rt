@@ -3,7 +3,6 @@ use crate::rows;
 use crate::saturating::ALL;
 use crate::saturating::plus;
 use crate::state::ASKED;
-use crate::state::ENDS;
 use crate::state::FREE_OPEN;
 use crate::state::JOINS;
 use crate::state::LOOKS;
@@ -17,6 +16,7 @@ use crate::state::UNSEEN;
 use crate::state::WAYS;
 use crate::state::WITH;
 use crate::state::WORST;
+use crate::state::WORTHS;
 use crate::state::all_ones;
 use crate::state::of;
 use crate::state::set;
@@ -38,21 +38,21 @@ pub(crate) fn clear(s: &mut State) {
     let none = grid::zero_row();
     s[ROWS][REACHED] = none;
     s[ROWS][JOINS] = never;
-    s[ROWS][ENDS] = never;
+    s[ROWS][WORTHS] = never;
     s[ROWS][LOOKS] = never;
     s[ROWS][UNSEEN] = none;
 }
 
-// A row of times is brought forward; and a value is noted in a row, wherever a time was.
-fn bring_forward(s: &mut State, row: usize, sooner: &[u16; 16]) {
-    let mut times = s[ROWS][row % 16];
-    rows::bring_forward(&mut times, sooner);
-    s[ROWS][row % 16] = times;
+// A row is lowered; and a value is noted in a row, wherever another was lowered.
+fn lower(s: &mut State, row: usize, by: &[u16; 16]) {
+    let mut lowered = s[ROWS][row % 16];
+    rows::lower(&mut lowered, by);
+    s[ROWS][row % 16] = lowered;
 }
 
-fn note_sooner(s: &mut State, row: usize, sooner: &[u16; 16], value: u16) {
+fn note(s: &mut State, row: usize, by: &[u16; 16], value: u16) {
     let mut noted = s[ROWS][row % 16];
-    rows::note_sooner(&mut noted, sooner, value);
+    rows::note(&mut noted, by, value);
     s[ROWS][row % 16] = noted;
 }
 
@@ -68,50 +68,44 @@ fn ties_sooner(s: &State, i: usize, worth: u16, now: u16, sooner: &mut [u16; 16]
         now,
         &mut times,
     );
-    rows::sooner(&s[ROWS][JOINS], &times, sooner);
+    rows::differences(&s[ROWS][JOINS], &times, sooner);
 }
 
 // When free deals tie with an hour that is worth so much now and falls.
 pub(crate) fn tie(s: &mut State, i: usize, worth: u16, now: u16, mark: u16) {
     let mut sooner = grid::zero_row();
     ties_sooner(s, i, worth, now, &mut sooner);
-    bring_forward(&mut *s, JOINS, &sooner);
-    note_sooner(&mut *s, WAYS, &sooner, mark);
+    lower(&mut *s, JOINS, &sooner);
+    note(&mut *s, WAYS, &sooner, mark);
 }
 
-// By how much growers' hours that are worth so much end sooner than others.
-fn ends_sooner(s: &State, worth: &[u16; 16], now: u16, sooner: &mut [u16; 16]) {
-    let mut end = grid::zero_row();
-    rows::later(worth, now, &mut end);
-    rows::sooner(&s[ROWS][ENDS], &end, sooner);
+// What the free-deal hours of growers with pilot j are worth, and by how much that is less than what is known of those reached before.
+fn worths_with(s: &State, j: usize, worth: &mut [u16; 16], by: &mut [u16; 16]) {
+    rows::worths(&s[SHARED][j % 16], of(s, PRICE, j), &mut *worth);
+    rows::differences(&s[ROWS][WORTHS], worth, by);
 }
 
-fn note_looks(s: &mut State, sooner: &[u16; 16], worth: &[u16; 16], now: u16) {
+fn note_looks(s: &mut State, by: &[u16; 16], worth: &[u16; 16], now: u16) {
     let most = s[ROWS][MOST];
     let mut looks = s[ROWS][LOOKS];
-    rows::look_times(&mut looks, sooner, worth, &most, now);
+    rows::look_times(&mut looks, by, worth, &most, now);
     s[ROWS][LOOKS] = looks;
 }
 
-// The growers who are reached sooner over pilot j are to be looked at anew.
-fn note_growers(s: &mut State, sooner: &[u16; 16], j: usize) {
-    bring_forward(&mut *s, ENDS, sooner);
-    note_sooner(&mut *s, WITH, sooner, (j % 16) as u16);
-    note_sooner(&mut *s, UNSEEN, sooner, ALL);
-}
-
-fn worths(s: &State, j: usize, to: &mut [u16; 16]) {
-    rows::worths(&s[SHARED][j % 16], of(s, PRICE, j), to);
+// The growers whose least hours are those with pilot j are to be looked at anew.
+fn note_growers(s: &mut State, by: &[u16; 16], j: usize) {
+    lower(&mut *s, WORTHS, by);
+    note(&mut *s, WITH, by, (j % 16) as u16);
+    note(&mut *s, UNSEEN, by, ALL);
 }
 
 // The growers who hold free-deal hours with a pilot who is reached now.
 fn reach_growers(s: &mut State, j: usize, now: u16) {
     let mut worth = grid::zero_row();
-    let mut sooner = grid::zero_row();
-    worths(s, j, &mut worth);
-    ends_sooner(s, &worth, now, &mut sooner);
-    note_looks(&mut *s, &sooner, &worth, now);
-    note_growers(&mut *s, &sooner, j);
+    let mut by = grid::zero_row();
+    worths_with(s, j, &mut worth, &mut by);
+    note_looks(&mut *s, &by, &worth, now);
+    note_growers(&mut *s, &by, j);
 }
 
 fn late_time(s: &State, progress: Progress, j: usize) -> u16 {
@@ -144,12 +138,20 @@ fn lift(s: &mut State, row: usize, by: u16) {
     s[ROWS][row % 16] = lifted;
 }
 
+// What the hours of growers reached are worth falls as prices rise. When they are worth nothing need not be a number of 16 bits.
+fn fall(s: &mut State, by: u16) {
+    let mut fallen = grid::zero_row();
+    rows::worths(&s[ROWS][WORTHS], by, &mut fallen);
+    s[ROWS][WORTHS] = fallen;
+}
+
 pub(crate) fn rise(s: &mut State, progress: Progress, at: u16) -> Progress {
     let mut next = progress;
     if progress.now < at {
         let by = at - progress.now;
         lift(&mut *s, PRICE, by);
         lift(&mut *s, ASKED, by);
+        fall(&mut *s, by);
         next.now = at;
     }
     next

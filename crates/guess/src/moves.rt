@@ -8,7 +8,6 @@ use crate::deals::more_tariff;
 use crate::deals::room;
 use crate::deals::settle_price;
 use crate::saturating::ALL;
-use crate::saturating::lesser;
 use crate::saturating::plus;
 use crate::state::FREE_DEAL_HOURS;
 use crate::state::GROWER_FREE;
@@ -30,6 +29,7 @@ use crate::ways::on_the_way;
 use crate::ways::room_along;
 use crate::ways::room_round;
 use numbers::less;
+use numbers::lesser;
 
 // What the last pilot of a way does for the hours that come.
 pub(crate) enum Room {

@@ -11,7 +11,6 @@ use crate::moves::come_by_tariff;
 use crate::pilots::Wanted;
 use crate::pilots::first_with;
 use crate::pilots::has_free;
-use crate::saturating::lesser;
 use crate::search::search;
 use crate::sets::NOBODY;
 use crate::sets::bit;
@@ -30,6 +29,7 @@ use crate::state::set;
 use crate::tariffs::best_offers;
 use crate::ways::Way;
 use numbers::less;
+use numbers::lesser;
 
 // How many requests a guess may take. Far more than was ever seen.
 const MOST_REQUESTS: usize = 20000;

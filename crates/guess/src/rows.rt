@@ -1,9 +1,9 @@
 // Rows: each loop does the same at all sixteen places, so that it becomes vector code.
 use crate::saturating::ALL;
 use crate::saturating::greater;
-use crate::saturating::lesser;
 use crate::saturating::plus;
 use numbers::less;
+use numbers::lesser;
 
 fn eight() -> [u16; 8] {
     [0; 8]
@@ -151,27 +151,28 @@ pub(crate) fn times(
     }
 }
 
-// What is kept where nothing is sooner.
-fn unless_sooner(sooner: u16, kept: u16, other: u16) -> u16 {
-    if sooner == 0 { kept } else { other }
+// What is kept where nothing is less.
+fn unless_less(by: u16, kept: u16, other: u16) -> u16 {
+    if by == 0 { kept } else { other }
 }
 
-// By how much each time is sooner.
-pub(crate) fn sooner(old: &[u16; 16], time: &[u16; 16], to: &mut [u16; 16]) {
+// By how much each of the other numbers is less.
+pub(crate) fn differences(row: &[u16; 16], other: &[u16; 16], to: &mut [u16; 16]) {
     for j in 0..16usize {
-        to[j] = less(old[j], time[j]);
+        to[j] = less(row[j], other[j]);
     }
 }
 
-pub(crate) fn bring_forward(row: &mut [u16; 16], sooner: &[u16; 16]) {
+pub(crate) fn lower(row: &mut [u16; 16], by: &[u16; 16]) {
     for j in 0..16usize {
-        row[j] = less(row[j], sooner[j]);
+        row[j] = less(row[j], by[j]);
     }
 }
 
-pub(crate) fn note_sooner(row: &mut [u16; 16], sooner: &[u16; 16], value: u16) {
+// A value where something is less.
+pub(crate) fn note(row: &mut [u16; 16], by: &[u16; 16], value: u16) {
     for j in 0..16usize {
-        row[j] = unless_sooner(sooner[j], row[j], value);
+        row[j] = unless_less(by[j], row[j], value);
     }
 }
 
@@ -198,33 +199,27 @@ pub(crate) fn tariff_waits(
     }
 }
 
-// What a pair's free-deal hour is worth to the grower; all ones stay.
-fn worth(gain: u16, price: u16) -> u16 {
-    if gain == ALL { ALL } else { less(gain, price) }
+// What an hour is worth when so much is taken from it; all ones stay.
+fn worth(gain: u16, by: u16) -> u16 {
+    if gain == ALL { ALL } else { less(gain, by) }
 }
 
-pub(crate) fn worths(gain: &[u16; 16], price: u16, to: &mut [u16; 16]) {
+pub(crate) fn worths(gain: &[u16; 16], by: u16, to: &mut [u16; 16]) {
     for k in 0..16usize {
-        to[k] = worth(gain[k], price);
+        to[k] = worth(gain[k], by);
     }
 }
 
-pub(crate) fn later(row: &[u16; 16], now: u16, to: &mut [u16; 16]) {
-    for k in 0..16usize {
-        to[k] = plus(row[k], now);
-    }
-}
-
-// When growers are to be looked at, where they are reached sooner.
+// When growers are to be looked at whose hours are worth less than those known before.
 pub(crate) fn look_times(
     looks: &mut [u16; 16],
-    sooner: &[u16; 16],
+    by: &[u16; 16],
     worth: &[u16; 16],
     most: &[u16; 16],
     now: u16,
 ) {
     for k in 0..16usize {
-        looks[k] = unless_sooner(sooner[k], looks[k], plus(less(worth[k], most[k]), now));
+        looks[k] = unless_less(by[k], looks[k], plus(less(worth[k], most[k]), now));
     }
 }
 

@@ -7,10 +7,6 @@ pub(crate) fn plus(a: u16, b: u16) -> u16 {
     if ALL - b < a { ALL } else { a + b }
 }
 
-pub(crate) fn lesser(a: u16, b: u16) -> u16 {
-    if b < a { b } else { a }
-}
-
 pub(crate) fn greater(a: u16, b: u16) -> u16 {
     if a < b { b } else { a }
 }

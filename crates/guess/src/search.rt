@@ -12,13 +12,11 @@ use crate::moves::come_by_tariff;
 use crate::pilots::Wanted;
 use crate::pilots::first_with;
 use crate::saturating::ALL;
-use crate::saturating::lesser;
 use crate::saturating::plus;
 use crate::sets::EVERYBODY;
 use crate::sets::NOBODY;
 use crate::sets::first;
 use crate::sets::without_first;
-use crate::state::ENDS;
 use crate::state::JOINS;
 use crate::state::LOOKS;
 use crate::state::PILOT_FREE;
@@ -27,6 +25,7 @@ use crate::state::SOURCE;
 use crate::state::State;
 use crate::state::UNSEEN;
 use crate::state::WITH;
+use crate::state::WORTHS;
 use crate::state::least_of;
 use crate::state::of;
 use crate::state::place_of;
@@ -38,6 +37,7 @@ use crate::ways::Way;
 use crate::ways::mark;
 use crate::ways::way_to;
 use numbers::less;
+use numbers::lesser;
 
 // How many events a search may take. Far more than was ever seen.
 const MOST_EVENTS: usize = 2000;
@@ -80,7 +80,7 @@ fn find(s: &State, progress: Progress, new: u32, end: u16) -> Found {
         };
     }
     if end == progress.now {
-        let k = first(places_of(s, ROWS, ENDS, plus(progress.now, 1)));
+        let k = first(places_of(s, ROWS, WORTHS, 1));
         return Found::Pilot {
             j: place_of(s, WITH, k),
             given: Room::GivesUpFreeDeal { k },
@@ -141,7 +141,7 @@ fn look_again(s: &mut State, progress: Progress, k: usize, from: usize, worth: u
 }
 
 fn look_at_grower(s: &mut State, progress: Progress, k: usize) -> Step {
-    let worth = less(of(s, ENDS, k), progress.now);
+    let worth = of(s, WORTHS, k);
     let from = place_of(s, WITH, k);
     if of(s, UNSEEN, k) == 0 {
         look_again(&mut *s, progress, k, from, worth)
@@ -214,9 +214,9 @@ struct Times {
     look: u16,
 }
 
-fn times_of(s: &State) -> Times {
+fn times_of(s: &State, now: u16) -> Times {
     let join = least_of(s, ROWS, JOINS);
-    let end = less(least_of(s, ROWS, ENDS), 1);
+    let end = plus(less(least_of(s, ROWS, WORTHS), 1), now);
     let look = least_of(s, ROWS, LOOKS);
     Times { join, end, look }
 }
@@ -243,7 +243,7 @@ fn happen(s: &mut State, progress: Progress, new: u32, times: Times) -> Step {
 }
 
 fn next_step(s: &mut State, progress: Progress) -> Step {
-    let times = times_of(s);
+    let times = times_of(s, progress.now);
     let next = rise(&mut *s, progress, soonest(progress, times));
     let new = joined(s, times.join, next.now);
     happen(&mut *s, next, new, times)

@@ -64,8 +64,9 @@ pub(crate) const JOINS: usize = 8;
 
 pub(crate) const WAYS: usize = 9;
 
-// Growers: when the least hour with those reached is worth nothing, and 1; with whom that is; when to look at one; all ones if none did.
-pub(crate) const ENDS: usize = 10;
+// Growers: what the least hour with those reached is worth, all ones if there is none; with whom that is; when to look at one; all ones
+// if nobody has looked since.
+pub(crate) const WORTHS: usize = 10;
 
 pub(crate) const WITH: usize = 11;
 

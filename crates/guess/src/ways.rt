@@ -2,13 +2,13 @@
 use crate::deals::less_free_deal;
 use crate::deals::more_free_deal;
 use crate::deals::room;
-use crate::saturating::lesser;
 use crate::state::FREE_DEAL_HOURS;
 use crate::state::SOURCE;
 use crate::state::State;
 use crate::state::WAYS;
 use crate::state::get;
 use crate::state::of;
+use numbers::lesser;
 
 // The way to a pilot who is reached: the grower who comes, and the pilot whose hours he gives up for it.
 pub(crate) struct Way {

@@ -12,6 +12,7 @@ ghost use Rattle.marker.specs.Tables.{usedIn, partyOf, partyAt, nobody, 
 use crate::Party;
 use grid::differences;
 use grid::turned;
+use numbers::left;
 use numbers::wide;
 
 // A party's hours over all deals.
@@ -24,17 +25,6 @@ fn used(tariff: [u16; 16], free: [u16; 16], partners: usize) -> u32
         total += wide(tariff[l]) + wide(free[l]);
     }
     total
-}
-
-// What is left of a party's own hours.
-fn left(hours: u16, used: u32) -> u16
-    ensures { λ r. ⌜ r ≡ hours - used ⌝ }
-{
-    if used < wide(hours) {
-        (wide(hours) - used) as u16
-    } else {
-        0
-    }
 }
 
 // A party of four rows.

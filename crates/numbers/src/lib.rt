@@ -66,7 +66,20 @@ pub fn less_wide(x: u32, y: u32) -> u32
     if x < y { 0 } else { x - y }
 }
 
-// The lesser and the greater of two wide numbers.
+// What is left of a number when a wide one is taken from it.
+pub fn left(x: u16, y: u32) -> u16
+    ensures { λ r. ⌜ r ≡ x - y ⌝ }
+{
+    if y < wide(x) { (wide(x) - y) as u16 } else { 0 }
+}
+
+// The lesser of two numbers; the lesser and the greater of two wide ones.
+pub fn lesser(x: u16, y: u16) -> u16
+    ensures { λ r. ⌜ r ≡ min x y ⌝ }
+{
+    if y < x { y } else { x }
+}
+
 pub fn least(x: u32, y: u32) -> u32
     ensures { λ r. ⌜ r ≡ min x y ⌝ }
 {

@@ -1,52 +1,41 @@
--- `certificate::certified` meets its contract: the pairs of the growers so far are all kept, or not.
+-- `certificate::certified` meets its contract: what is tested of squares is what is tested of the ticket and the settlement.
 -- Assumes nothing.
-use Prim.Native.Nat.{ℕ, _-_, _≤_}
-use mathlib.Core.Path.{_≡_, sym, ap, _∙_}
 use native.Mathlib.Omega.{arith}
-use Rattle.certificate.specs.Rows.{rowsKept}
-use Rattle.certificate.proofs.EveryLaws.{every-none, every-turn}
-use Rattle.certificate.proofs.Squares.{rows-certified}
+use Rattle.certificate.proofs.Squares.{squares-certified}
 use borrow.Author.Needs.{needs}
 use Rattle.certificate.proofs.certified.Statement.{statement}
 use Rattle.certificate.proofs.certified.Tie as tie
 
-abbrev Inv-loop : tie.InvT-loop
-Inv-loop growers pilots tariff-cap tariff-gain tariff-pay free-cap joint-gain tariff-hours free-deal-hours pay n m g p kept₀ i₀ kept i =
-    (i ≤ n) × (n ≤ 16) × (m ≤ 16) ×
-    (kept ≡ rowsKept g p i m tariff-cap tariff-gain tariff-pay free-cap joint-gain tariff-hours free-deal-hours pay)
+-- places, each by a later one: the growers are known, and the pilots
+abbrev growers : tie.After-side2 → tie.After-side
+growers c = c .before .before .before .before .before .before
 
-abbrev μ-loop : tie.MeasureT-loop
-μ-loop growers pilots tariff-cap tariff-gain tariff-pay free-cap joint-gain tariff-hours free-deal-hours pay n m g p kept₀ i₀ kept i = n - i
+abbrev counted : tie.After-side → tie.After-within2
+counted c = c .before .before .before .before
 
-loop-holds : tie.Need-loop-holds Inv-loop μ-loop
-loop-holds c = (search needs, search needs, search needs, sym (every-none _))
+rows-kept-requires : tie.Need-rows-kept-requires
+rows-kept-requires c κs = let w = counted (growers (c .before .before)) in omega (arith, w .before .within .ensures .1)
 
-loop-again : tie.Need-loop-again Inv-loop μ-loop
-loop-again c =
-    let l = c .before .before .before .before .before .before .before .before .before .before .before .loop in
-    (omega arith, omega arith, omega arith, every-turn _ _ _ _ (l .inv .3) (c .row-kept .ensures))
-
-returns : tie.Need-returns Inv-loop μ-loop
+returns : tie.Need-returns
 returns c =
-    let l = c .before .loop in
-    let pilots = c .before .before in
-    let turned = pilots .before in
-    let growers = turned .before .before .before .before in
-    let none = growers .before .before in
-    let a = none .before .before .before .args in
-    l .inv .3
-    ∙ rows-certified _ _ (l .inv .1) (l .inv .2) (a .grower-hours) (a .pilot-hours) (none .zero-row .result) (a .t5) (a .t6) (a .t7) (a .t8) (a .t9) (a .t10)
-    (a .t11) (a .t12) _ _ _ _ _ (growers .parties .result) (pilots .parties2 .result) (none .zero-row .ensures .1) (growers .before .differences .ensures) (growers .parties .ensures)
-    (turned .before .before .before .turned .ensures) (turned .before .before .turned2 .ensures) (turned .before .turned3 .ensures)
-    (turned .turned4 .ensures) (pilots .parties2 .ensures) (l .i) _ _ (omega arith)
-    (none .before .before .within .ensures .0) (none .before .within2 .ensures .0)
+    let p = c .before .before .before in
+    let g = growers p in
+    let w = counted g in
+    let a = w .before .before .args in
+    rw (c .rows-kept .ensures)
+    (squares-certified _ _ (omega (arith, w .before .within .ensures .1)) (omega (arith, w .within2 .ensures .1)) (a .grower-hours)
+    (a .pilot-hours) (g .before .before .before .zero-row .result) (p .before .before .before .before .before .absent2 .result)
+    (g .before .before .absent .result) (a .tariff-cap) (a .tariff-gain) (a .tariff-pay) (a .free-cap) (a .joint-gain) (a .tariff-hours) (a .free-deal-hours) (a .pay)
+    _ _ _ _ _ (g .side .result) (p .side2 .result) (g .before .before .before .zero-row .ensures .1)
+    (p .before .before .before .before .before .absent2 .ensures) (g .before .before .absent .ensures) (g .before .differences .ensures)
+    (g .side .ensures) (p .before .before .before .before .turned .ensures) (p .before .before .before .turned2 .ensures)
+    (p .before .before .turned3 .ensures) (p .before .turned4 .ensures) (p .side2 .ensures) _ _ (w .before .within .ensures .0)
+    (w .within2 .ensures .0))
 
 pub certified-spec : {M : Type 1} → statement M
 certified-spec =
     tie.close
     (tie.spec
-    Inv-loop
-    μ-loop
     (λ c κs. search needs)
     (λ c κs. search needs)
     (λ c κs. search needs)
@@ -57,27 +46,7 @@ certified-spec =
     (λ c κs. search needs)
     (λ c κs. search needs)
     (λ c κs. search needs)
-    loop-holds
-    (λ c. search needs)
-    (λ c. search needs)
-    (λ c. search needs)
-    (λ c. search needs)
-    (λ c. search needs)
-    (λ c. search needs)
-    (λ c. search needs)
-    (λ c. search needs)
-    (λ c. search needs)
-    (λ c. search needs)
-    (λ c. search needs)
-    (λ c. search needs)
-    (λ c. search needs)
-    (λ c. search needs)
-    (λ c. search needs)
-    (λ c. search needs)
-    (λ c. search needs)
-    (λ c. search needs)
     (λ c κs. search needs)
-    (λ c. search needs)
-    (λ c. search needs)
-    loop-again
+    (λ c κs. search needs)
+    rows-kept-requires
     returns)
