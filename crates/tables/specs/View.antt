@@ -2,7 +2,8 @@
 -- Both lists begin with kind, n and m. A ticket goes on with n grower hours, m pilot hours and five numbers for each pair,
 -- a settlement with three numbers for each pair.
 -- Assumes nothing.
-use Prim.Native.Nat.{ℕ, _+_, _*_, min}
+use mathlib.Core.Path.{_≡_}
+use Prim.Native.Nat.{ℕ, _+_, _*_, _<_, min}
 use mathlib.Core.List.{List}
 use lib.ListN.{getD}
 use Rattle.grid.specs.Grid.{Grid}
@@ -34,6 +35,12 @@ placeOf JointGain n = λ m. pairPlace (3 + n + m) 5 4 m
 placeOf TariffHours n = pairPlace 3 3 0
 placeOf FreeDealHours n = pairPlace 3 3 1
 placeOf Pay n = pairPlace 3 3 2
+
+-- The same for all pairs: that of the first pair stands at `first`, that of each other pair `each` places after the last.
+pub record Spreads (q : Quantity) (n m first each : ℕ) : Type 0 where
+  pub places : (i j : ℕ) → placeOf q n m i j ≡ first + each * (i * m + j)
+  pub early : first < 200000
+  pub few : each < 6
 
 abbrev pub quantityOf : Quantity → List ℕ → ℕ → ℕ → ℕ
 quantityOf q list i j = getD list (placeOf q (growersOf list) (pilotsOf list) i j) 0

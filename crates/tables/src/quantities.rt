@@ -3,32 +3,44 @@ ghost use mathlib.Core.Path.{_≡_};
 ghost use Prim.Native.Nat.{_+_, _*_, _<_, min};
 ghost use lib.ListN.{getD};
 ghost use Rattle.grid.specs.Fill.{FilledRow};
-ghost use Rattle.tables.specs.View.{growersOf, pilotsOf, pairPlace, placeOf, quantityOf, growerHoursOf, pilotHoursOf, Holds, HoldsOver};
+ghost use Rattle.tables.specs.View.{growersOf, pilotsOf, Spreads, growerHoursOf, pilotHoursOf, Holds, HoldsOver};
 use crate::Quantity;
 
-// Where the k-th of `each` numbers of a pair stands. The product is proved to fit here, once.
-fn pair_place(start: usize, each: usize, k: usize, m: usize, i: usize, j: usize) -> usize
-    requires { ⌜ (start < 200000) × (each < 6) × (k < 5) × (m < 65536) × (i < 16) × (j < 16) ⌝ }
-    ensures { λ r. ⌜ r ≡ pairPlace start each k m i j ⌝ }
-{
-    start + each * (i * m + j) + k
+// Where a quantity stands: that of the first pair at `first`, that of each other pair `each` places after the last.
+struct Spread {
+    first: usize,
+    each: usize,
 }
 
-fn place(quantity: Quantity, n: usize, m: usize, i: usize, j: usize) -> usize
-    requires { ⌜ (n < 65536) × (m < 65536) × (i < 16) × (j < 16) ⌝ }
-    ensures { λ r. ⌜ r ≡ placeOf quantity n m i j ⌝ }
+fn every(each: usize, first: usize) -> Spread
+    ensures { λ r. ⌜ (r .each ≡ each) × (r .first ≡ first) ⌝ }
+{
+    Spread { first, each }
+}
+
+fn places(quantity: Quantity, n: usize, m: usize) -> Spread
+    requires { ⌜ (n < 65536) × (m < 65536) ⌝ }
+    ensures { λ r. ⌜ Spreads quantity n m (r .first) (r .each) ⌝ }
 {
     let start = 3 + n + m;
     match quantity {
-        Quantity::TariffCap => pair_place(start, 5, 0, m, i, j),
-        Quantity::TariffGain => pair_place(start, 5, 1, m, i, j),
-        Quantity::TariffPay => pair_place(start, 5, 2, m, i, j),
-        Quantity::FreeCap => pair_place(start, 5, 3, m, i, j),
-        Quantity::JointGain => pair_place(start, 5, 4, m, i, j),
-        Quantity::TariffHours => pair_place(3, 3, 0, m, i, j),
-        Quantity::FreeDealHours => pair_place(3, 3, 1, m, i, j),
-        Quantity::Pay => pair_place(3, 3, 2, m, i, j),
+        Quantity::TariffCap => every(5, start),
+        Quantity::TariffGain => every(5, start + 1),
+        Quantity::TariffPay => every(5, start + 2),
+        Quantity::FreeCap => every(5, start + 3),
+        Quantity::JointGain => every(5, start + 4),
+        Quantity::TariffHours => every(3, 3),
+        Quantity::FreeDealHours => every(3, 4),
+        Quantity::Pay => every(3, 5),
     }
+}
+
+// Where the quantities of grower i begin, among m pilots. The product is proved to fit here, once.
+fn row_place(first: usize, each: usize, m: usize, i: usize) -> usize
+    requires { ⌜ (first < 200000) × (each < 6) × (m < 65536) × (i < 16) ⌝ }
+    ensures { λ r. ⌜ (r ≡ first + each * (i * m)) × (r < 6000000) ⌝ }
+{
+    first + each * (i * m)
 }
 
 // How many growers, and how many pilots, a list tells of.
@@ -44,27 +56,23 @@ pub fn pilots(list: &[u16]) -> usize
     numbers::index(numbers::entry(list, 2))
 }
 
-// A quantity of the pair of grower i and pilot j.
-fn quantity_at(list: &[u16], quantity: Quantity, i: usize, j: usize) -> u16
-    requires { ⌜ (i < 16) × (j < 16) ⌝ }
-    ensures { λ r. ⌜ r ≡ quantityOf quantity (now (list .entry)) i j ⌝ }
-{
-    let n = growers(list);
-    let m = pilots(list);
-    numbers::entry(list, place(quantity, n, m, i, j))
-}
-
 // Writes a quantity of every pair into a lent square, growers by pilots, as far as the square reaches. Its other cells stay as they are.
 // The copy only tells the proof that a square is lent.
 pub fn fill(list: &[u16], quantity: Quantity, into: &mut [[u16; 16]; 16])
     ensures { λ _. ⌜ HoldsOver (now (into .entry)) quantity (now (list .entry)) (now (into .exit)) ⌝ }
 {
     let _before = grid::copied(&*into);
-    let rows = numbers::within(growers(list));
-    let columns = numbers::within(pilots(list));
+    let n = growers(list);
+    let m = pilots(list);
+    let rows = numbers::within(n);
+    let columns = numbers::within(m);
+    let spread = places(quantity, n, m);
+    let each = spread.each;
     for i in 0..rows {
+        let mut place = row_place(spread.first, each, m, i);
         for j in 0..columns {
-            into[i][j] = quantity_at(list, quantity, i, j);
+            into[i][j] = numbers::entry(list, place);
+            place = place + each;
         }
     }
 }
