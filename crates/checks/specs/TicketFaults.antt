@@ -1,5 +1,5 @@
 -- What is wrong with a number of a ticket.
-use mathlib.Core.Bool.{Bool, cond}
+use mathlib.Core.Bool.{Bool, cond, _&&_}
 use Prim.Native.Nat.{ℕ}
 use lib.Dec.{leb, eqb}
 use Rattle.checks.specs.declared.ticket.Field.{Field}
@@ -38,3 +38,12 @@ faultOf TariffGain cap none x = amountFault cap x
 faultOf TariffPay cap none x = amountFault cap x
 faultOf FreeCap cap none x = capFault none x
 faultOf FreeGain cap none x = amountFault cap x
+
+-- Whether the five numbers of a pair, in their order, have no fault.
+abbrev pub pairPasses : Bool → ℕ → ℕ → ℕ → ℕ → ℕ → Bool
+pairPasses none cap gain pay free joint =
+    eqb (capFault none cap) 0
+    && eqb (amountFault cap gain) 0
+    && eqb (amountFault cap pay) 0
+    && eqb (capFault none free) 0
+    && eqb (amountFault free joint) 0

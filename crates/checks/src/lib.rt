@@ -15,3 +15,4 @@ pub use refusals::refusals_of;
 pub use settlement::settlement_fault;
 pub use ticket::Field;
 pub use ticket::fault_of;
+pub use ticket::pair_passes;

@@ -1,6 +1,6 @@
 // The fields of a ticket, and the range of each.
 ghost use mathlib.Core.Path.{_≡_};
-ghost use Rattle.checks.specs.TicketFaults.{partyFault, zeroCapFault, amountFault, noHoursFault, capFault, faultOf};
+ghost use Rattle.checks.specs.TicketFaults.{partyFault, zeroCapFault, amountFault, noHoursFault, capFault, faultOf, pairPasses};
 use crate::refusals::ABOVE_LIMIT;
 use crate::refusals::AMOUNT_WITHOUT_CAP;
 use crate::refusals::CAP_WITHOUT_HOURS;
@@ -85,4 +85,22 @@ pub fn fault_of(field: Field, cap: usize, none: bool, x: usize) -> u8
         Field::FreeCap => cap_fault(none, x),
         Field::FreeGain => amount_fault(cap, x),
     }
+}
+
+// Whether the five numbers of a pair, in their order, have no fault. No branch depends on them: `&` looks at both sides.
+pub fn pair_passes(
+    none: bool,
+    cap: usize,
+    gain: usize,
+    pay: usize,
+    free: usize,
+    joint: usize,
+) -> bool
+    ensures { λ r. ⌜ r ≡ pairPasses none cap gain pay free joint ⌝ }
+{
+    (cap_fault(none, cap) == 0)
+        & (amount_fault(cap, gain) == 0)
+        & (amount_fault(cap, pay) == 0)
+        & (cap_fault(none, free) == 0)
+        & (amount_fault(free, joint) == 0)
 }

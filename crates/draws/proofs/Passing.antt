@@ -1,7 +1,7 @@
 -- What is drawn passes the ticket's checks.
 -- Assumes nothing.
 use mathlib.Core.Path.{_≡_, refl, sym, ap, _∙_}
-use mathlib.Core.Bool.{Bool, true, false, cond, _&&_}
+use mathlib.Core.Bool.{Bool, true, false, cond}
 use mathlib.Core.List.{List, _++_}
 use Prim.Native.Nat.{ℕ, zero, suc, _+_, _*_, _-_, _/_, _%_, _≤_, _<_}
 use native.Mathlib.Omega.{arith}
@@ -9,7 +9,6 @@ use borrow.Author.Tests.{lt-ltb, le-leb, leb-true}
 use lib.Dec.{leb, eqb, lit<}
 use lib.ListN.{length}
 use lib.Seq.{sets}
-use Rattle.grid.proofs.Cases.{never}
 use Rattle.reader.specs.declared.Reply.{Reply}
 use Rattle.checks.specs.Refusals.{ticketRefusals, aboveLimit, noRoom, must, first}
 use Rattle.checks.specs.TicketFaults.{partyFault, amountFault, capFault}
@@ -23,6 +22,7 @@ use Rattle.reader.specs.Answer.{packed, reply, Tells, kept}
 use Rattle.reader.proofs.WalkLaws.{Good, Accepted, accepts-form}
 use Rattle.reader.proofs.Undoing.{head-whole}
 use Rattle.reader.proofs.Telling.{tells, refuses}
+use Rattle.reader.proofs.Accepting.{both-hold}
 use Rattle.reader.proofs.Facts.{reply-with-room, reply-without-room, kept-without-room}
 use Rattle.reader.proofs.TicketLaws.{Stands, place-after, deal-place}
 use Rattle.draws.specs.Generator as generator
@@ -115,11 +115,6 @@ ticket-passes n m x hn ln hm lm =
     let xs = ticketFrom n m x in
     let e = accepts-form ticket readHead xs xs (drawn-accepted n m x hn ln hm lm) (head-whole xs) in
     rw e
-
--- The two sides of a test that holds.
-both-hold : (a b : Bool) → (a && b) ≡ true → (a ≡ true) × (b ≡ true)
-both-hold true b e = (refl, e)
-both-hold false b e = never cc
 
 range-holds : (x : ℕ) → inRange x ≡ true → (1 ≤ x) × (x ≤ 16)
 range-holds x e = let h = both-hold (leb 1 x) (leb x 16) e in (leb-true 1 x (h .0), leb-true x 16 (h .1))

@@ -168,6 +168,16 @@ encode-short (suc g) x p h = encode-length g x h
 pub encode-some : (x : ℕ) → 0 < length (encode x)
 encode-some x = ⊎-elim (λ s. rw (encode-last x s) (omega arith)) (λ s. rw (encode-more x s) (omega arith)) (lt-or-le x 128)
 
+-- The bytes of numbers of one, two and three groups.
+pub one-byte : (x : ℕ) → x < 128 → 1 ≡ length (encode x)
+one-byte x h = rw (encode-last x h)
+
+pub two-bytes : (x : ℕ) → 128 ≤ x → x < 16384 → 2 ≡ length (encode x)
+two-bytes x l h = rw (encode-more x l) (ap suc (one-byte (x / 128) (omega arith)))
+
+pub three-bytes : (x : ℕ) → 16384 ≤ x → x < 2097152 → 3 ≡ length (encode x)
+three-bytes x l h = rw (encode-more x (omega arith)) (ap suc (two-bytes (x / 128) (omega arith) (omega arith)))
+
 pub pack-length : (x : ℕ) (xs : List ℕ) → length (pack (x ∷ xs)) ≡ length (encode x) + length (pack xs)
 pack-length x xs = length-append (encode x) (pack xs)
 

@@ -2,4 +2,3 @@
 pub mod Ends
 pub mod GroupLaws
 pub mod Reading
-pub mod Sizing

@@ -66,15 +66,15 @@ pub fn fits(x: usize) -> bool
     x < TOO_LONG
 }
 
-// How many bytes a number takes.
-pub fn size(x: usize) -> usize
+// How many bytes a number takes, which are at most three for 16 bits.
+pub fn size(x: u16) -> usize
     ensures { λ r. ⌜ r ≡ length (encode x) ⌝ }
 {
-    let mut n: usize = 1;
-    let mut left = x;
-    while 128 <= left {
-        left = left / 128;
-        n = n + 1;
+    if x < 128 {
+        1
+    } else if x < 16384 {
+        2
+    } else {
+        3
     }
-    n
 }

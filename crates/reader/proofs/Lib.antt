@@ -10,5 +10,6 @@ pub mod LayoutLaws
 pub mod Running
 pub mod Filling
 pub mod Packing
+pub mod Accepting
 pub mod Facts
 pub mod Examples

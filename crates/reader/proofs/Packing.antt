@@ -98,21 +98,13 @@ pub record Summing (list : List ℕ) (k total : ℕ) : Type 0 where
 pub summing-starts : (list : List ℕ) → Summing list 0 0
 summing-starts list = record { turns = omega arith; ends = omega arith }
 
-pub summing-turns : (list : List ℕ) (k total x n : ℕ) → Summing list k total → k < length list → x ≡ getD list k 0 →
-    n ≡ length (encode x) → Summing list (k + 1) (total + n)
-summing-turns list k total x n r h e f =
+pub summing-turns : (list : List ℕ) (k total n : ℕ) → Summing list k total → k < length list → n ≡ length (encode (getD list k 0)) →
+    Summing list (k + 1) (total + n)
+summing-turns list k total n r h f =
     rw (add-one k)
     (record {
       turns = omega arith;
-      ends =
-          omega (
-            arith,
-            r .ends,
-            ap length (left list k h),
-            length-append (encode (getD list k 0)) (pack (drop (suc k) list)),
-            f,
-            ap (λ (v : ℕ). length (encode v)) e,
-          );
+      ends = omega (arith, r .ends, ap length (left list k h), length-append (encode (getD list k 0)) (pack (drop (suc k) list)), f);
     })
 
 pub summing-ends : (list : List ℕ) (k total : ℕ) → Summing list k total → length list ≤ k → total ≡ length (pack list)

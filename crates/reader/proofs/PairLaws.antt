@@ -32,7 +32,7 @@ pub record Deal (tariffCap tariffGain tariffPay freeCap freeGain : ℕ) : Type 0
   pub noFree : freeCap ≡ 0 → freeGain ≡ 0
 
 -- No number of a pair has a fault, where `none` says whether somebody of it has no hours.
-record Faultless (none : Bool) (a b c d e : ℕ) : Type 0 where
+pub record Faultless (none : Bool) (a b c d e : ℕ) : Type 0 where
   pub tariffCap : capFault none a ≡ 0
   pub tariffGain : amountFault a b ≡ 0
   pub tariffPay : amountFault a c ≡ 0
@@ -68,7 +68,7 @@ faultless-deal none a b c d e f = record {
   noFree = λ z. amount-none d e (f .freeGain) z;
 }
 
-five : (xs : List ℕ) (p : ℕ) → p + 4 < length xs →
+pub five : (xs : List ℕ) (p : ℕ) → p + 4 < length xs →
     drop p xs ≡ getD xs p 0 ∷ getD xs (p + 1) 0 ∷ getD xs (p + 2) 0 ∷ getD xs (p + 3) 0 ∷ getD xs (p + 4) 0 ∷ drop (p + 5) xs
 five xs p h =
     let e₁ : p + 1 ≡ suc p = omega arith in

@@ -1,9 +1,9 @@
 -- What the private functions answer: a number at a place of a source, and a run over some numbers of a document.
 use mathlib.Core.Path.{_≡_}
-use mathlib.Core.Bool.{true, false, cond}
+use mathlib.Core.Bool.{Bool, true, false, cond, _||_, _&&_}
 use mathlib.Core.List.{List, [], _∷_}
 use Prim.Native.Nat.{ℕ, zero, suc, _+_, _*_, _^_, _<_}
-use lib.Dec.{ltb}
+use lib.Dec.{ltb, eqb}
 use lib.ListN.{length, getD, drop}
 use Rattle.checks.specs.declared.refusals.Document.{Document}
 use Rattle.groups.specs.declared.Got.{Got}
@@ -11,7 +11,9 @@ use Rattle.reader.specs.declared.layout.State.{State}
 use Rattle.reader.specs.declared.scan.SourceKind.{SourceKind}
 use Rattle.reader.specs.declared.scan.Run.{Run}
 use Rattle.reader.specs.declared.Reply.{Reply}
+use Rattle.checks.specs.declared.ticket.Field.the-variants.{Kind, Growers, Pilots, Hours}
 use Rattle.checks.specs.Refusals.{refusalsOf}
+use Rattle.checks.specs.TicketFaults.{faultOf, pairPasses}
 use Rattle.groups.specs.Groups.{Read, Number, Ends, TooLong, Padded, groups, bytes, placed}
 use Rattle.reader.specs.Walk.{Source, readHead}
 use Rattle.reader.specs.State.{start}
@@ -101,3 +103,26 @@ pub record Fillable (s : List ℕ) (count : ℕ) : Type 0 where
   pub long : length (firstNumbers count s) ≡ count
   pub gives : Gives bytes s (firstNumbers count s) []
   pub words : (i : ℕ) → getD (firstNumbers count s) i 0 < 65536
+
+-- What the quick test of a ticket's list looks at: the first three numbers, everybody's hours, five numbers from a place on, the pairs of
+-- grower i from a place on, and all pairs.
+abbrev pub headPasses : ℕ → ℕ → ℕ → Bool
+headPasses kind n m = eqb (faultOf Kind 0 false kind) 0 && eqb (faultOf Growers 0 false n) 0 && eqb (faultOf Pilots 0 false m) 0
+
+abbrev pub HoursPass : List ℕ → ℕ → Type 0
+HoursPass list k = (p : ℕ) → p < k → faultOf Hours 0 false (getD list (3 + p) 0) ≡ 0
+
+abbrev pub pairPassesAt : Bool → List ℕ → ℕ → Bool
+pairPassesAt none list p =
+    pairPasses none (getD list p 0) (getD list (p + 1) 0) (getD list (p + 2) 0) (getD list (p + 3) 0) (getD list (p + 4) 0)
+
+abbrev pub RowPasses : List ℕ → ℕ → ℕ → ℕ → ℕ → Type 0
+RowPasses list n i from k =
+    (j : ℕ) → j < k → pairPassesAt (eqb (getD list (3 + i) 0) 0 || eqb (getD list (3 + n + j) 0) 0) list (from + 5 * j) ≡ true
+
+abbrev pub PairsPass : List ℕ → ℕ → ℕ → Type 0
+PairsPass list n m = (i : ℕ) → i < n → RowPasses list n i (3 + n + m + 5 * (i * m)) m
+
+-- No number of a list has too many groups.
+abbrev pub AllFit : List ℕ → Type 0
+AllFit list = (k : ℕ) → k < length list → getD list k 0 < 128 ^ groups

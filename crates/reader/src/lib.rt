@@ -6,6 +6,7 @@ ghost use Rattle.reader.specs.Answer.{unpacked, packed, settlementRead, 
 
 mod copy; // copy.rt: the passes that write, after a scan that refused nothing
 mod layout; // layout.rt: the two documents behind one state: the fault of a number, the state after it, how many follow
+mod passing; // passing.rt: a quick test that a list is a document
 mod scan; // scan.rt: the walk over a whole document, which writes nothing
 mod settlement; // settlement.rt: the places of a settlement
 mod ticket; // ticket.rt: the places of a ticket

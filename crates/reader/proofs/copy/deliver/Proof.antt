@@ -13,7 +13,7 @@ use Rattle.reader.proofs.copy.deliver.Tie as tie
 accepted : (c : tie.After-enum-told) →
     Packs (c .before .before .before .before .before .before .args .document)
     (c .before .before .before .before .before .before .args .list .now)
-accepted c = packs _ _ _ (sym (c .enum-told .given .1) ∙ c .before .before .scan .ensures)
+accepted c = packs _ _ _ (sym (c .enum-told .given .1) ∙ c .before .before .scan-list .ensures)
 
 size-all-requires : tie.Need-size-all-requires
 size-all-requires c κs = accepted c .short
@@ -28,7 +28,7 @@ returns-2 : tie.Need-returns-2
 returns-2 c =
     let s = c .before .before .before .before .before .before .before in
     pack-refused (form (formOf (s .args .document)) readHead (s .args .list .now)) (s .args .out .now) _
-    (sym (c .before .seen .given .1) ∙ c .before .before .before .scan .ensures)
+    (sym (c .before .seen .given .1) ∙ c .before .before .before .scan-list .ensures)
 
 returns-3 : tie.Need-returns-3
 returns-3 c =

@@ -19,16 +19,11 @@ loop-holds c = summing-starts _
 
 add-total : tie.Need-add-total Inv-loop μ-loop
 add-total c =
-    let i = c .before .before .before .before .loop .inv in
-    let t = summing-turns _ _ _ _ _ i (c .before .before .before .loop-test .taken) (c .before .index .ensures .0) (c .size .ensures) in
-    omega (arith, t .ends, c .before .before .before .before .before .before .pre)
+    let t = summing-turns _ _ _ _ (c .before .before .before .loop .inv) (c .before .before .loop-test .taken) (c .size .ensures) in
+    omega (arith, t .ends, c .before .before .before .before .before .pre)
 
 loop-again : tie.Need-loop-again Inv-loop μ-loop
-loop-again c =
-    summing-turns _ _ _ _ _
-    (c .before .before .before .before .loop .inv)
-    (c .before .before .before .loop-test .taken)
-    (c .before .index .ensures .0) (c .size .ensures)
+loop-again c = summing-turns _ _ _ _ (c .before .before .before .loop .inv) (c .before .before .loop-test .taken) (c .size .ensures)
 
 returns : tie.Need-returns Inv-loop μ-loop
 returns c = summing-ends _ _ _ (c .before .loop .inv) (c .loop-test .left)
@@ -42,7 +37,6 @@ size-all-spec =
     loop-holds
     (λ c. search needs)
     (λ c. search needs)
-    (λ c κs. search needs)
     (λ c κs. search needs)
     add-total
     (λ c. search needs)
