@@ -6,15 +6,15 @@ use native.Mathlib.Numerals.{add-one}
 use native.Mathlib.Omega.{arith}
 use borrow.Author.Tests.{le-leb, lt-leb}
 use lib.Dec.{lit<}
-use lib.ListN.{length, getD, set, drop, length-set, drop-of-length-le}
-use lib.Seq.{sets, drop-cons}
+use lib.ListN.{length, getD, set, take, drop, length-set, drop-of-length-le}
+use lib.Seq.{sets, drop-cons, length-take-le}
 use Rattle.checks.specs.declared.refusals.Document.{Document}
 use Rattle.reader.specs.declared.layout.State.{State}
 use Rattle.groups.specs.declared.Got.{Got}
 use Rattle.reader.specs.declared.Reply.{Reply}
 use Rattle.checks.specs.Refusals.{noRoom}
 use Rattle.groups.specs.Groups.{Read, Number, Ends, TooLong, Padded, bytes, placed}
-use Rattle.reader.specs.Walk.{Outcome, Refusal, Numbers, form}
+use Rattle.reader.specs.Walk.{Outcome, Refusal, Numbers, readHead, form}
 use Rattle.reader.specs.State.{start}
 use Rattle.reader.specs.Layout.{afterIn, formOf}
 use Rattle.reader.specs.Answer.{counted, Tells, kept}
@@ -22,7 +22,7 @@ use Rattle.reader.specs.Steps.{Gives, firstNumbers, Fillable}
 use Rattle.grid.proofs.Cases.{never}
 use Rattle.groups.proofs.Ends.{EndOf, end-trans, end-place}
 use Rattle.reader.proofs.Telling.{refuses, counts}
-use Rattle.reader.proofs.WalkLaws.{Good, form-accepts}
+use Rattle.reader.proofs.WalkLaws.{Good, form-accepts, accepts-form}
 use Rattle.reader.proofs.LayoutLaws.{number-small}
 use Rattle.reader.proofs.Running.{bytes-ending}
 
@@ -112,6 +112,26 @@ module _ {s lent list xs : List ℕ} {here k : ℕ} (r : Filling s lent list xs 
       same = rw (add-one k, is-next .0) (rw (drop-cons xs k 0 h) at (r .same));
     }
 
+-- After k numbers of xs were copied: those that are left, written from place k on, make the whole.
+pub record Copying (xs lent list : List ℕ) (k : ℕ) : Type 0 where
+  pub turns : k ≤ length xs
+  pub long : length list ≡ length lent
+  pub same : sets list k (drop k xs) ≡ sets lent 0 xs
+
+pub copying-starts : (xs lent : List ℕ) → Copying xs lent lent 0
+copying-starts xs lent = record { turns = omega arith; long = refl; same = refl }
+
+pub copying-turns : (xs lent list : List ℕ) (k : ℕ) → Copying xs lent list k → k < length xs →
+    Copying xs lent (set list k (getD xs k 0)) (k + 1)
+copying-turns xs lent list k r h = record {
+  turns = omega arith;
+  long = length-set list k (getD xs k 0) ∙ r .long;
+  same = rw (add-one k) (rw (drop-cons xs k 0 h) at (r .same));
+}
+
+pub copying-ends : (xs lent list : List ℕ) (k : ℕ) → Copying xs lent list k → length xs ≤ k → list ≡ sets lent 0 xs
+copying-ends xs lent list k r h = rw (drop-of-length-le xs h) at (r .same)
+
 -- The whole answer from that of the scan.
 pub reply-refused : (o : Outcome) (lent : List ℕ) (w : ℕ) → Reply.Refused w ≡ counted o →
     Tells (Reply.Refused w) (length lent) o × (lent ≡ kept lent o)
@@ -136,3 +156,31 @@ pub reply-filled : (p : Document) (s lent list : List ℕ) (k : ℕ) → Reply.D
     list ≡ sets lent 0 (firstNumbers k s) →
     Tells (Reply.Done k) (length lent) (form (formOf p) bytes s) × (list ≡ kept lent (form (formOf p) bytes s))
 reply-filled p s lent list k e h f = reply-done (form (formOf p) bytes s) lent list k e h (f ∙ ap (sets lent 0) (scanned-fills p s k e .1))
+
+-- Numbers that bytes give, whole, and that are accepted as a list, are those of the bytes.
+pub record Decoded (p : Document) (s xs : List ℕ) (count : ℕ) : Type 0 where
+  pub whole : form (formOf p) bytes s ≡ Numbers xs
+  pub long : length xs ≡ count
+
+pub decoded : (p : Document) (s own xs : List ℕ) (count : ℕ) →
+    (0 < count → (count ≤ length own) × Gives bytes s (take count own) []) → xs ≡ take count own →
+    form (formOf p) readHead xs ≡ Numbers xs → Decoded p s xs count
+decoded p s own xs zero gives e f =
+    let a = form-accepts (formOf p) readHead xs xs f .0 in absurd (omega (arith, a .count, ap length e))
+decoded p s own xs (suc k) gives e f =
+    let g = gives (omega arith) in record {
+      whole = accepts-form (formOf p) bytes s xs (form-accepts (formOf p) readHead xs xs f .0) (rw e (g .1));
+      long = ap length e ∙ length-take-le (suc k) own (g .0);
+    }
+
+module _ {p : Document} {s xs : List ℕ} {count : ℕ} (d : Decoded p s xs count) (lent : List ℕ) where
+  counts-them : Reply.Done count ≡ counted (form (formOf p) bytes s)
+  counts-them = rw (d .whole) (ap Reply.Done (sym (d .long)))
+
+  pub decoded-short : length lent < count →
+      Tells (Reply.Refused noRoom) (length lent) (form (formOf p) bytes s) × (lent ≡ kept lent (form (formOf p) bytes s))
+  decoded-short h = reply-short (form (formOf p) bytes s) lent count counts-them h
+
+  pub decoded-done : (list : List ℕ) → count ≤ length lent → list ≡ sets lent 0 xs →
+      Tells (Reply.Done count) (length lent) (form (formOf p) bytes s) × (list ≡ kept lent (form (formOf p) bytes s))
+  decoded-done list h f = reply-done (form (formOf p) bytes s) lent list count counts-them h (rw (d .whole) f)

@@ -11,5 +11,6 @@ pub mod Running
 pub mod Filling
 pub mod Packing
 pub mod Accepting
+pub mod Decoding
 pub mod Facts
 pub mod Examples

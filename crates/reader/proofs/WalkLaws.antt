@@ -24,7 +24,7 @@ module _ (F : Form) where
     pub good : Good (F .start) xs
     pub count : length xs ≡ F .head + F .body (final F (F .start) (take (F .head) xs))
 
-gives-append : (read : Source) (a : List ℕ) (xs : List ℕ) (b : List ℕ) (ys c : List ℕ) → Gives read a xs b → Gives read b ys c →
+pub gives-append : (read : Source) (a : List ℕ) (xs : List ℕ) (b : List ℕ) (ys c : List ℕ) → Gives read a xs b → Gives read b ys c →
     Gives read a (xs ++ ys) c
 gives-append read a [] b ys c g h = subst (λ (d : List ℕ). Gives read d ys c) (sym g) h
 gives-append read a (x ∷ xs) b ys c g h = (g .0, g .1, gives-append read (g .0) xs b ys c (g .2) h)

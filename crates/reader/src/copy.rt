@@ -9,6 +9,8 @@ ghost use Rattle.reader.specs.Layout.{formOf};
 ghost use Rattle.reader.specs.Steps.{mostBytes, firstNumbers, Fillable};
 ghost use Rattle.reader.specs.Answer.{packedAs, counted, Tells, kept};
 use crate::Reply;
+use crate::decode::decode;
+use crate::decode::room;
 use crate::passing::passes;
 use crate::scan::SourceKind;
 use crate::scan::scan;
@@ -17,6 +19,7 @@ use checks::NO_ROOM;
 use groups::Got;
 use groups::number;
 use groups::size;
+use numbers::front;
 use numbers::index;
 
 // Writes the first numbers of bytes that were scanned to the front of a list.
@@ -75,8 +78,8 @@ fn write_all(list: &[u16], out: &mut [u8])
     }
 }
 
-// A document's bytes into a lent list.
-pub(crate) fn receive(document: Document, s: &[u8], list: &mut [u16]) -> Reply
+// A document's bytes into a lent list, number by number.
+fn receive_each(document: Document, s: &[u8], list: &mut [u16]) -> Reply
     ensures { λ r. ⌜ Tells r (length (now (list .entry))) (form (formOf document) bytes (now (s .entry))) ⌝ }
     ensures { λ r. ⌜ now (list .exit) ≡ kept (now (list .entry)) (form (formOf document) bytes (now (s .entry))) ⌝ }
 {
@@ -91,6 +94,33 @@ pub(crate) fn receive(document: Document, s: &[u8], list: &mut [u16]) -> Reply
             Reply::Done { count }
         }
     }
+}
+
+// Writes numbers to the front of a list.
+fn copy_front(numbers: &[u16], list: &mut [u16])
+    requires { ⌜ length (now numbers) ≤ length (now list) ⌝ }
+    ensures { λ _. ⌜ now (list .exit) ≡ sets (now (list .entry)) 0 (now (numbers .entry)) ⌝ }
+{
+    for k in 0..numbers.len() {
+        list[k] = numbers[k];
+    }
+}
+
+// A document's bytes into a lent list: decoded into room of our own, where what is decoded passes the quick test, else number by number.
+pub(crate) fn receive(document: Document, s: &[u8], list: &mut [u16]) -> Reply
+    ensures { λ r. ⌜ Tells r (length (now (list .entry))) (form (formOf document) bytes (now (s .entry))) ⌝ }
+    ensures { λ r. ⌜ now (list .exit) ≡ kept (now (list .entry)) (form (formOf document) bytes (now (s .entry))) ⌝ }
+{
+    let mut own = room();
+    let count = decode(s, &mut own);
+    if !passes(document, front(&own, count)) {
+        return receive_each(document, s, list);
+    }
+    if count <= list.len() {
+        copy_front(front(&own, count), list);
+        return Reply::Done { count };
+    }
+    Reply::Refused { why: NO_ROOM }
 }
 
 // What a scan of a list answers, at once where the list passes the quick test. `unread` stands for the bytes that a scan could read.

@@ -1,40 +1,38 @@
--- `reader::copy::receive` meets its contract: the answer of the scan, of the lent length and of the filling, put together. Assumes nothing.
-use mathlib.Core.Path.{sym, _∙_}
-use Rattle.groups.specs.Groups.{bytes}
-use Rattle.reader.specs.Walk.{form}
-use Rattle.reader.specs.Layout.{formOf}
-use Rattle.reader.proofs.Filling.{scanned-fills, reply-refused, reply-short, reply-filled}
+-- `reader::copy::receive` meets its contract: what was decoded passes, and is copied if there is room; or the numbers are read one by one.
+-- Assumes nothing.
 use borrow.Author.Needs.{needs}
+use borrow.Author.Tests.{not-false}
+use native.Mathlib.Omega.{arith}
+use lib.ListN.{length}
+use mathlib.Core.Path.{_≡_, sym, ap, _∙_}
+use Rattle.reader.proofs.Filling.{Decoded, decoded, decoded-short, decoded-done}
 use Rattle.reader.proofs.copy.receive.Statement.{statement}
 use Rattle.reader.proofs.copy.receive.Tie as tie
 
-returns : tie.Need-returns
-returns c =
-    let s = c .before .before .before .before .before .before .before .before in
-    reply-short (form (formOf (s .args .document)) bytes (s .args .s .now)) (s .args .list .now) _
-    (sym (c .before .before .seen2 .given .1) ∙ c .before .before .before .before .scan .ensures)
-    (c .if1 .taken)
+-- the numbers that pass are those of the bytes
+own : (c : tie.Else1) →
+    let start = c .before .before .before .before .before .before .before .before .before .before in
+    Decoded (start .args .document) (start .args .s .now) (c .before .before .front .result .now)
+    (c .before .before .before .before .before .decode .result)
+own c =
+    decoded _ _ _ _ _ (c .before .before .before .before .before .decode .ensures) (c .before .before .front .ensures)
+    (c .before .passes .ensures (not-false _ (c .if1 .left)))
 
-fill-requires : tie.Need-fill-requires
-fill-requires c κs =
-    let s = c .before .before .before .before .before .before .before .before .before in
-    let e = sym (c .before .before .before .seen2 .given .1) ∙ c .before .before .before .before .before .scan .ensures in
-    (scanned-fills (s .args .document) _ _ e .0, c .before .if1 .left)
+-- they are the same when they are copied
+again : (c : tie.After-front2) → c .front2 .result .now ≡ c .before .before .before .before .before .front .result .now
+again c = c .front2 .ensures ∙ sym (c .before .before .before .before .before .front .ensures)
+
+copy-front-requires : tie.Need-copy-front-requires
+copy-front-requires c κs = let d = own (c .before .before .before .before) in omega (arith, d .long, ap length (again (c .before)))
 
 returns-2 : tie.Need-returns-2
 returns-2 c =
-    let s = c .before .before .before .before .before .before .before in
-    reply-refused (form (formOf (s .args .document)) bytes (s .args .s .now)) (s .args .list .now) _
-    (sym (c .before .seen .given .1) ∙ c .before .before .before .scan .ensures)
+    let d = own (c .before .before .before .before .before .before .before) in
+    let f = rw (again (c .before .before .before .before)) at (c .before .before .copy-front .ensures) in
+    decoded-done d _ _ (c .before .before .before .before .before .before .if2 .taken) f
 
 returns-3 : tie.Need-returns-3
-returns-3 c =
-    let s = c .before .before .before .before .before .before .before .before .before .before .before .before in
-    reply-filled (s .args .document) (s .args .s .now) (s .args .list .now) _ _
-    (sym (c .before .before .before .before .before .before .seen2 .given .1)
-    ∙ c .before .before .before .before .before .before .before .before .scan .ensures)
-    (c .before .before .before .before .if1 .left)
-    (c .before .before .fill .ensures)
+returns-3 c = decoded-short (own (c .before)) _ (omega arith)
 
 pub receive-spec : {M : Type 1} → statement M
 receive-spec =
@@ -42,11 +40,16 @@ receive-spec =
     (tie.spec
     (λ c κs. search needs)
     (λ c. search needs)
+    (λ c κs. search needs)
+    (λ c. search needs)
+    (λ c κs. search needs)
+    (λ c κs. search needs)
+    (λ c κs. search needs)
     (λ c. search needs)
     (λ c. search needs)
-    returns
-    fill-requires
+    (λ c. search needs)
+    (λ c κs. search needs)
+    copy-front-requires
     (λ c. search needs)
     returns-2
-    (λ c. search needs)
     returns-3)
