@@ -5,9 +5,10 @@
 
 use std::time::Duration;
 
-use exchange_bench::draw::shapes::{Shape, only_free, random, shapes};
+use exchange_bench::draw::shapes::{ONLY_FREE, RANDOM, Shape, shapes};
 use exchange_bench::plain::account::account_into;
-use exchange_bench::plain::settle::{Rises, Turns, settle, settle_ticket};
+use exchange_bench::plain::method::{Rises, Turns, settle_ticket};
+use exchange_bench::plain::settle::{settle, settled};
 use exchange_bench::plain::sheet::sheet;
 use exchange_bench::plain::ticket::{Ticket, pack, unpack};
 use exchange_bench::plain::{cheapest, mark};
@@ -120,7 +121,7 @@ fn mean_times<T>(
 }
 
 fn operations() -> Table {
-    let tickets = random().tickets;
+    let tickets = RANDOM.shape().tickets;
     let files: Vec<_> = tickets.iter().map(Ticket::bytes).collect();
     let mut table = Table::new(&["16 by 16, random", "proved", "plain Rust", "ratio"]);
     let mut push = |name: &str, times: &dyn Fn() -> [Duration; 2]| {
@@ -144,7 +145,7 @@ fn operations() -> Table {
     push(
         "mark, only free deals, plain Rust by cheapest spares too",
         &|| {
-            mark_times(&only_free().tickets, |ticket, settlement| {
+            mark_times(&ONLY_FREE.shape().tickets, |ticket, settlement| {
                 cheapest::mark(ticket, settlement).is_ok()
             })
         },
@@ -175,10 +176,9 @@ fn pack_times(tickets: &[Ticket]) -> [Duration; 2] {
 
 /// The files of these tickets, and of settlements of them.
 fn settled_files(tickets: &[Ticket]) -> Vec<(Vec<u8>, Vec<u8>)> {
-    let settled = |ticket| settle_ticket(ticket, Rises::Jumps).0.bytes();
     tickets
         .iter()
-        .map(|ticket| (ticket.bytes(), settled(ticket)))
+        .map(|ticket| (ticket.bytes(), settled(ticket).bytes()))
         .collect()
 }
 

@@ -1,7 +1,7 @@
 //! Settlements of a ticket, sound and not, drawn from a seed.
 
 use super::generator::Generator;
-use crate::plain::settle::{Rises, settle_ticket};
+use crate::plain::settle::settled;
 use crate::plain::settlement::{Agreement, Settlement};
 use crate::plain::ticket::{Terms, Ticket};
 
@@ -173,5 +173,5 @@ fn other_size(generator: &mut Generator, ticket: &Ticket) -> Settlement {
         other.pilot_hours.truncate(1 + generator.below(pilots));
         other.terms.truncate(other.pairs());
     }
-    settle_ticket(&other, Rises::Jumps).0
+    settled(&other)
 }

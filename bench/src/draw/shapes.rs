@@ -2,11 +2,7 @@
 
 use super::generator::Generator;
 use super::tickets::{Style, ticket};
-use crate::plain::ticket::{Terms, Ticket};
-
-/// The most that anybody has, and the most that an hour is worth.
-const HOURS: u16 = 60;
-const AMOUNT: u16 = 500;
+use crate::plain::ticket::{MOST_AMOUNT, MOST_HOURS, Terms, Ticket};
 
 /// Tickets of one kind.
 pub struct Shape {
@@ -14,18 +10,78 @@ pub struct Shape {
     pub tickets: Vec<Ticket>,
 }
 
-/// How many tickets are drawn of a kind.
+impl Shape {
+    /// No ticket has a tariff deal.
+    pub fn is_only_free(&self) -> bool {
+        !self.tickets.iter().any(Ticket::has_tariff_deal)
+    }
+}
+
+/// A kind of ticket that is drawn from a seed.
+#[derive(Clone, Copy)]
+pub struct Kind {
+    pub name: &'static str,
+    pub draw: fn(&mut Generator) -> Ticket,
+}
+
+/// How many tickets of a kind are in the benchmark.
 const DRAWN: u64 = 16;
 
+impl Kind {
+    /// Tickets of the first seeds.
+    pub fn shape(&self) -> Shape {
+        let draw = |seed| (self.draw)(&mut Generator::new(seed));
+        Shape {
+            name: self.name,
+            tickets: (0..DRAWN).map(draw).collect(),
+        }
+    }
+}
+
+pub const RANDOM: Kind = kind("16 by 16, random", |generator| wide(generator, 16));
+
+pub const ONLY_FREE: Kind = kind("16 by 16, only free deals", |generator| {
+    ticket(generator, 16, 16, Style::OnlyFree)
+});
+
+pub const KINDS: [Kind; 11] = [
+    kind("1 by 1, random", |generator| wide(generator, 1)),
+    kind("4 by 4, random", |generator| wide(generator, 4)),
+    RANDOM,
+    kind("16 by 16, few amounts, pilots scarce", |generator| {
+        ticket(generator, 16, 16, Style::Scarce)
+    }),
+    kind("16 by 16, full", full),
+    kind("16 by 16, only tariff deals", |generator| {
+        ticket(generator, 16, 16, Style::OnlyTariff)
+    }),
+    kind(
+        "16 by 16, caps 1 to 5, pilots short of hours",
+        small_and_short,
+    ),
+    ONLY_FREE,
+    kind("16 by 16, only free deals, caps 1 to 10", |generator| {
+        capped(generator, 10)
+    }),
+    kind("16 by 16, only free deals, caps 1 to 3", |generator| {
+        capped(generator, 3)
+    }),
+    kind("16 by 16, only free deals, caps 1", |generator| {
+        capped(generator, 1)
+    }),
+];
+
+const fn kind(name: &'static str, draw: fn(&mut Generator) -> Ticket) -> Kind {
+    Kind { name, draw }
+}
+
+/// Drawn tickets of each kind, and tickets in which prices go to war.
 pub fn shapes() -> Vec<Shape> {
-    vec![
-        drawn("1 by 1, random", |generator| wide(generator, 1)),
-        drawn("4 by 4, random", |generator| wide(generator, 4)),
-        random(),
-        drawn("16 by 16, few amounts, pilots scarce", |generator| {
-            ticket(generator, 16, 16, Style::Scarce)
-        }),
-        drawn("16 by 16, full", full),
+    KINDS.iter().map(Kind::shape).chain(wars()).collect()
+}
+
+fn wars() -> [Shape; 5] {
+    [
         one(
             "16 equal growers, 15 equal pilots, caps 60",
             war(16, 15, free_deals),
@@ -46,27 +102,7 @@ pub fn shapes() -> Vec<Shape> {
             "the same, tariffs good for pilots",
             one_hour_short(tariffs_for_pilots),
         ),
-        only_free(),
-        drawn("16 by 16, only tariff deals", |generator| {
-            ticket(generator, 16, 16, Style::OnlyTariff)
-        }),
-        drawn(
-            "16 by 16, caps 1 to 5, pilots short of hours",
-            small_and_short,
-        ),
     ]
-}
-
-/// The random tickets of 16 by 16.
-pub fn random() -> Shape {
-    drawn("16 by 16, random", |generator| wide(generator, 16))
-}
-
-/// Those without tariff deals.
-pub fn only_free() -> Shape {
-    drawn("16 by 16, only free deals", |generator| {
-        ticket(generator, 16, 16, Style::OnlyFree)
-    })
 }
 
 fn one(name: &'static str, ticket: Ticket) -> Shape {
@@ -76,28 +112,29 @@ fn one(name: &'static str, ticket: Ticket) -> Shape {
     }
 }
 
-/// Tickets of the first seeds.
-fn drawn(name: &'static str, draw: impl Fn(&mut Generator) -> Ticket) -> Shape {
-    Shape {
-        name,
-        tickets: (0..DRAWN)
-            .map(|seed| draw(&mut Generator::new(seed)))
-            .collect(),
-    }
-}
-
 fn wide(generator: &mut Generator, side: usize) -> Ticket {
     ticket(generator, side, side, Style::Wide)
+}
+
+/// Only free deals, with caps of at most so many hours.
+fn capped(generator: &mut Generator, most: u16) -> Ticket {
+    let mut ticket = (ONLY_FREE.draw)(generator);
+    for terms in &mut ticket.terms {
+        if terms.free_cap > 0 {
+            terms.free_cap = generator.between(1, most);
+        }
+    }
+    ticket
 }
 
 /// All hours 60, all caps above 0, and amounts that differ.
 fn full(generator: &mut Generator) -> Ticket {
     war(16, 16, |_, _| Terms {
-        tariff_cap: generator.between(1, HOURS),
-        tariff_gain: generator.between(1, AMOUNT),
-        tariff_pay: generator.between(1, AMOUNT),
-        free_cap: generator.between(1, HOURS),
-        joint_gain: generator.between(1, AMOUNT),
+        tariff_cap: generator.between(1, MOST_HOURS),
+        tariff_gain: generator.between(1, MOST_AMOUNT),
+        tariff_pay: generator.between(1, MOST_AMOUNT),
+        free_cap: generator.between(1, MOST_HOURS),
+        joint_gain: generator.between(1, MOST_AMOUNT),
     })
 }
 
@@ -105,10 +142,10 @@ fn full(generator: &mut Generator) -> Ticket {
 fn small_and_short(generator: &mut Generator) -> Ticket {
     let mut ticket = war(16, 16, |_, _| Terms {
         tariff_cap: generator.between(1, 5),
-        tariff_gain: generator.between(300, AMOUNT),
-        tariff_pay: generator.between(300, AMOUNT),
+        tariff_gain: generator.between(300, MOST_AMOUNT),
+        tariff_pay: generator.between(300, MOST_AMOUNT),
         free_cap: generator.between(1, 5),
-        joint_gain: generator.between(300, AMOUNT),
+        joint_gain: generator.between(300, MOST_AMOUNT),
     });
     for hours in &mut ticket.pilot_hours {
         *hours -= generator.between(1, 6);
@@ -119,8 +156,8 @@ fn small_and_short(generator: &mut Generator) -> Ticket {
 /// Equal growers and equal pilots, who all have all hours, with terms for each pair.
 fn war(growers: usize, pilots: usize, mut terms: impl FnMut(usize, usize) -> Terms) -> Ticket {
     Ticket {
-        grower_hours: vec![HOURS; growers],
-        pilot_hours: vec![HOURS; pilots],
+        grower_hours: vec![MOST_HOURS; growers],
+        pilot_hours: vec![MOST_HOURS; pilots],
         terms: (0..growers * pilots)
             .map(|pair| terms(pair / pilots, pair % pilots))
             .collect(),
@@ -136,8 +173,8 @@ fn one_hour_short(terms: impl FnMut(usize, usize) -> Terms) -> Ticket {
 
 fn free_deals(_: usize, _: usize) -> Terms {
     Terms {
-        free_cap: HOURS,
-        joint_gain: AMOUNT,
+        free_cap: MOST_HOURS,
+        joint_gain: MOST_AMOUNT,
         ..Terms::default()
     }
 }
@@ -151,16 +188,16 @@ fn small_caps(grower: usize, pilot: usize) -> Terms {
 
 fn worthless_tariffs(grower: usize, pilot: usize) -> Terms {
     Terms {
-        tariff_cap: HOURS,
+        tariff_cap: MOST_HOURS,
         ..free_deals(grower, pilot)
     }
 }
 
 fn tariffs_for_pilots(grower: usize, pilot: usize) -> Terms {
     Terms {
-        tariff_cap: HOURS,
+        tariff_cap: MOST_HOURS,
         tariff_gain: 10,
-        tariff_pay: AMOUNT,
+        tariff_pay: MOST_AMOUNT,
         ..free_deals(grower, pilot)
     }
 }

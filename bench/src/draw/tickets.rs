@@ -31,11 +31,20 @@ pub const STYLES: [Style; 6] = [
 
 /// A ticket of any size and style, small ones more often.
 pub fn any_ticket(generator: &mut Generator) -> Ticket {
-    let most = generator.one_of(&[2, 3, 4, 6, 9, 16]);
-    let growers = 1 + generator.below(most);
-    let pilots = 1 + generator.below(most);
+    let (growers, pilots) = any_size(generator);
     let style = generator.one_of(&STYLES);
     ticket(generator, growers, pilots, style)
+}
+
+/// The same of a style.
+pub fn any_ticket_of(generator: &mut Generator, style: Style) -> Ticket {
+    let (growers, pilots) = any_size(generator);
+    ticket(generator, growers, pilots, style)
+}
+
+fn any_size(generator: &mut Generator) -> (usize, usize) {
+    let most = generator.one_of(&[2, 3, 4, 6, 9, 16]);
+    (1 + generator.below(most), 1 + generator.below(most))
 }
 
 pub fn ticket(generator: &mut Generator, growers: usize, pilots: usize, style: Style) -> Ticket {
@@ -47,7 +56,7 @@ pub fn ticket(generator: &mut Generator, growers: usize, pilots: usize, style: S
             .map(|_| terms(generator, style))
             .collect(),
     };
-    clear_without_hours(&mut ticket);
+    make_valid(&mut ticket);
     ticket
 }
 
@@ -64,12 +73,17 @@ pub fn free_deals_of(ticket: &Ticket) -> Ticket {
     }
 }
 
-/// Who has no hours has no deals.
-fn clear_without_hours(ticket: &mut Ticket) {
+/// Takes away deals of who has no hours, and amounts of deals without a cap.
+pub fn make_valid(ticket: &mut Ticket) {
     let pilots = ticket.pilots();
     for (pair, terms) in ticket.terms.iter_mut().enumerate() {
-        if ticket.grower_hours[pair / pilots] == 0 || ticket.pilot_hours[pair % pilots] == 0 {
-            *terms = Terms::default();
+        let without_hours =
+            ticket.grower_hours[pair / pilots] == 0 || ticket.pilot_hours[pair % pilots] == 0;
+        if without_hours || terms.tariff_cap == 0 {
+            (terms.tariff_cap, terms.tariff_gain, terms.tariff_pay) = (0, 0, 0);
+        }
+        if without_hours || terms.free_cap == 0 {
+            (terms.free_cap, terms.joint_gain) = (0, 0);
         }
     }
 }

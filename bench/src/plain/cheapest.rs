@@ -26,7 +26,7 @@ fn blocks(market: &Market, free: &FreeHours, place: Place) -> bool {
     };
     match place.deal {
         Deal::Tariff => of_grower < terms.tariff_gain && of_pilot < terms.tariff_pay,
-        Deal::Free => of_grower + of_pilot < terms.joint_gain,
+        Deal::Free => terms.gain_beyond(of_grower, of_pilot),
     }
 }
 

@@ -211,7 +211,7 @@ impl Market<'_> {
             }
             Deal::Free => of_grower
                 .iter()
-                .any(|&one| of_pilot.iter().any(|&other| terms.joint_gain > one + other)),
+                .any(|&one| of_pilot.iter().any(|&other| terms.gain_beyond(one, other))),
         }
     }
 

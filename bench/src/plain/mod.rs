@@ -1,15 +1,18 @@
 //! The exchange in plain Rust, written from the paper and not from the proved code. Only settling follows the proved
-//! program's method, turn for turn, because it is also the yardstick for its speed.
+//! program's method, choice for choice, because it is also the yardstick for its speed.
 
 pub mod account;
+pub mod certificate;
 pub mod cheapest;
 pub mod flow;
-pub mod jumps;
+pub mod guess;
 pub mod mark;
+pub mod method;
 pub mod numbers;
 pub mod settle;
 pub mod settlement;
 pub mod sheet;
+pub mod squares;
 pub mod ticket;
 
 /// Why an operation refuses; the numbers are the paper's.

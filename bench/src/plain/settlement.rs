@@ -4,7 +4,7 @@ use super::Refusal;
 use super::numbers::{Bytes, Ill, Source, write_numbers};
 use super::ticket::Ticket;
 
-const KIND: u16 = 2;
+pub(super) const KIND: u16 = 2;
 
 /// What a settlement says of a pair.
 #[derive(Clone, Copy, Debug, Default, PartialEq, Eq)]
@@ -13,6 +13,13 @@ pub struct Agreement {
     pub free_deal_hours: u16,
     /// The pilot's pay per free-deal hour.
     pub pay: u16,
+}
+
+impl Agreement {
+    /// In the order of the file.
+    pub(super) fn numbers(&self) -> [u16; 3] {
+        [self.tariff_hours, self.free_deal_hours, self.pay]
+    }
 }
 
 #[derive(Clone, Debug, PartialEq, Eq)]
@@ -61,13 +68,7 @@ impl Settlement {
     pub fn numbers(&self) -> Vec<u16> {
         let mut numbers = Vec::with_capacity(3 + 3 * self.agreements.len());
         numbers.extend([KIND, self.growers as u16, self.pilots as u16]);
-        for agreement in &self.agreements {
-            numbers.extend([
-                agreement.tariff_hours,
-                agreement.free_deal_hours,
-                agreement.pay,
-            ]);
-        }
+        numbers.extend(self.agreements.iter().flat_map(Agreement::numbers));
         numbers
     }
 

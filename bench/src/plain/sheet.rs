@@ -3,7 +3,7 @@
 use std::fmt::Write;
 
 use super::cheapest::judge;
-use super::settle::{Rises, settle_ticket};
+use super::settle::settled;
 use super::settlement::{Agreement, Settlement};
 use super::ticket::{Terms, Ticket};
 use super::{Refusal, copy_to_front};
@@ -17,8 +17,7 @@ pub fn sheet(ticket: &[u8], text: &mut [u8]) -> Result<usize, Refusal> {
     if text.len() < settled_room(&ticket) {
         return Err(Refusal::NoRoom);
     }
-    let (settlement, _) = settle_ticket(&ticket, Rises::Jumps);
-    copy_to_front(settled_text(&ticket, &settlement).as_bytes(), text)
+    copy_to_front(settled_text(&ticket, &settled(&ticket)).as_bytes(), text)
 }
 
 /// The length that the buffer must have.

@@ -5,9 +5,12 @@ use super::{Refusal, copy_to_front};
 
 const KIND: u16 = 1;
 const MOST_PARTIES: u16 = 16;
-const MOST_HOURS: u16 = 60;
-const MOST_AMOUNT: u16 = 500;
+pub const MOST_HOURS: u16 = 60;
+pub const MOST_AMOUNT: u16 = 500;
 const MOST_NUMBERS: usize = 1315;
+
+/// How many cents a euro has.
+pub const CENTS: u16 = 100;
 
 /// What a ticket says of a pair. Amounts are euros per hour.
 #[derive(Clone, Copy, Debug, Default, PartialEq, Eq)]
@@ -54,14 +57,30 @@ impl Ticket {
     }
 
     /// The ticket of numbers that have passed their checks.
-    fn from_numbers(numbers: &[u16]) -> Ticket {
-        let (growers, pilots) = (usize::from(numbers[1]), usize::from(numbers[2]));
-        let (grower_hours, rest) = numbers[3..].split_at(growers);
-        let (pilot_hours, terms) = rest.split_at(pilots);
+    pub(super) fn from_numbers(numbers: &[u16]) -> Ticket {
+        let parts = Parts::of(numbers);
         Ticket {
-            grower_hours: grower_hours.to_vec(),
-            pilot_hours: pilot_hours.to_vec(),
-            terms: terms.chunks_exact(5).map(Terms::from_numbers).collect(),
+            grower_hours: parts.grower_hours.to_vec(),
+            pilot_hours: parts.pilot_hours.to_vec(),
+            terms: parts
+                .terms
+                .chunks_exact(5)
+                .map(Terms::from_numbers)
+                .collect(),
+        }
+    }
+
+    /// The ticket with every amount so many times as high, in range of a ticket's file or not.
+    pub fn with_amounts_times(&self, factor: u16) -> Ticket {
+        let times = |terms: &Terms| Terms {
+            tariff_gain: factor * terms.tariff_gain,
+            tariff_pay: factor * terms.tariff_pay,
+            joint_gain: factor * terms.joint_gain,
+            ..*terms
+        };
+        Ticket {
+            terms: self.terms.iter().map(times).collect(),
+            ..self.clone()
         }
     }
 
@@ -80,6 +99,11 @@ impl Ticket {
 }
 
 impl Terms {
+    /// Whether a free-deal hour gains more than two spares of these worths are worth together.
+    pub(super) fn gain_beyond(&self, one: u16, other: u16) -> bool {
+        u32::from(self.joint_gain) > u32::from(one) + u32::from(other)
+    }
+
     fn from_numbers(numbers: &[u16]) -> Terms {
         Terms {
             tariff_cap: numbers[0],
@@ -90,7 +114,8 @@ impl Terms {
         }
     }
 
-    fn numbers(&self) -> [u16; 5] {
+    /// In the order of the file.
+    pub fn numbers(&self) -> [u16; 5] {
         [
             self.tariff_cap,
             self.tariff_gain,
@@ -98,6 +123,28 @@ impl Terms {
             self.free_cap,
             self.joint_gain,
         ]
+    }
+}
+
+/// The numbers of a ticket after its kind, growers and pilots.
+pub(super) struct Parts<'a> {
+    pub(super) grower_hours: &'a [u16],
+    pub(super) pilot_hours: &'a [u16],
+    /// Five numbers for each pair.
+    pub(super) terms: &'a [u16],
+}
+
+impl Parts<'_> {
+    /// Of numbers that have passed their checks.
+    pub(super) fn of(numbers: &[u16]) -> Parts<'_> {
+        let (growers, pilots) = (usize::from(numbers[1]), usize::from(numbers[2]));
+        let (grower_hours, rest) = numbers[3..].split_at(growers);
+        let (pilot_hours, terms) = rest.split_at(pilots);
+        Parts {
+            grower_hours,
+            pilot_hours,
+            terms,
+        }
     }
 }
 
@@ -122,7 +169,7 @@ impl From<Ill> for Refusal {
 }
 
 /// All numbers of a ticket, each checked as it is read.
-fn ticket_numbers(source: impl Source) -> Result<Vec<u16>, Refusal> {
+pub(super) fn ticket_numbers(source: impl Source) -> Result<Vec<u16>, Refusal> {
     let mut reading = Reading {
         source,
         numbers: Vec::with_capacity(MOST_NUMBERS),

@@ -3,6 +3,7 @@
 
 mod account;
 mod buffers;
+mod guess;
 mod mark;
 mod old_caps;
 mod pack;

@@ -3,7 +3,8 @@ use exchange_bench::draw::generator::Generator;
 use exchange_bench::draw::shapes::shapes;
 use exchange_bench::draw::tickets::{STYLES, any_ticket, ticket};
 use exchange_bench::plain::mark::{Finding, judge};
-use exchange_bench::plain::settle::{Rises, settle, settle_ticket};
+use exchange_bench::plain::method::{Rises, settle_ticket};
+use exchange_bench::plain::settle::{settle, settled};
 use exchange_bench::plain::settlement::Settlement;
 use exchange_bench::plain::ticket::Ticket;
 use exchange_bench::proved;
@@ -19,7 +20,7 @@ fn room_needed(ticket: &Ticket) -> usize {
 }
 
 /// Every spare tried, the settlement is sound.
-fn assert_sound(ticket: &Ticket, settlement: &Settlement) {
+pub fn assert_sound(ticket: &Ticket, settlement: &Settlement) {
     let verdict = judge(ticket, settlement);
     assert_eq!(verdict.finding, Finding::Sound, "{ticket:?} {settlement:?}");
     assert_eq!(verdict.count, 2 * ticket.pairs());
@@ -30,7 +31,7 @@ fn settled_alike(ticket: &Ticket) -> Settlement {
     let mut bytes = vec![0; room_needed(ticket)];
     let length = proved::settle(&ticket.bytes(), &mut bytes).expect("the ticket is good");
     let settlement = Settlement::read(&bytes[..length], ticket).expect("it is a settlement");
-    assert_eq!(settlement, settle_ticket(ticket, Rises::Jumps).0);
+    assert_eq!(settlement, settled(ticket));
     settlement
 }
 
@@ -93,17 +94,19 @@ fn the_tickets_of_the_benchmark_are_settled_alike() {
     tally.report("tickets of the benchmark, settled and sound");
 }
 
-/// Jumps are for speed only.
+/// The method of turns settles where a guess is refused. Jumps are for speed only.
 #[test]
-fn settlements_without_jumps_are_sound() {
+fn settlements_by_turns_are_sound() {
     let mut generator = Generator::new(5);
     let mut tally = Tally::default();
     for _ in 0..2_000 {
         let ticket = any_ticket(&mut generator);
-        let (settlement, turns) = settle_ticket(&ticket, Rises::ByOne);
-        assert_sound(&ticket, &settlement);
-        assert_eq!(turns.jumps, 0);
-        tally.compared("plain settlements, each price rising by one");
+        for rises in [Rises::Jumps, Rises::ByOne] {
+            let (settlement, turns) = settle_ticket(&ticket, rises);
+            assert_sound(&ticket, &settlement);
+            assert!(rises == Rises::Jumps || turns.jumps == 0);
+            tally.compared(format!("plain settlements by turns, {rises:?}"));
+        }
     }
-    tally.report("settlements without jumps, plain only");
+    tally.report("settlements by turns, plain only");
 }

@@ -22,7 +22,12 @@ impl Tally {
 
     /// Something else about the input that was compared last.
     pub fn kind(&mut self, kind: impl Into<String>) {
-        *self.kinds.entry(kind.into()).or_default() += 1;
+        self.kind_if(true, kind);
+    }
+
+    /// The same where it holds. The kind is reported even if it never does.
+    pub fn kind_if(&mut self, holds: bool, kind: impl Into<String>) {
+        *self.kinds.entry(kind.into()).or_default() += u64::from(holds);
     }
 
     /// The answer on which both agreed.
@@ -65,8 +70,18 @@ impl Tally {
 
     /// So many inputs of this kind were met.
     pub fn expect_at_least(&self, least: u64, kind: &str) {
-        let met = self.kinds.get(kind).copied().unwrap_or_default();
+        let met = self.met(kind);
         assert!(met >= least, "{kind} must be met {least} times, not {met}");
+    }
+
+    /// No more inputs of this kind were met.
+    pub fn expect_at_most(&self, most: u64, kind: &str) {
+        let met = self.met(kind);
+        assert!(met <= most, "{kind} must be met {most} times, not {met}");
+    }
+
+    fn met(&self, kind: &str) -> u64 {
+        self.kinds.get(kind).copied().unwrap_or_default()
     }
 
     /// Exactly these refusals were met.

@@ -6,7 +6,7 @@ use exchange_bench::draw::shapes::shapes;
 use exchange_bench::draw::tickets::{STYLES, any_ticket, free_deals_of, ticket};
 use exchange_bench::plain::flow::greatest_worth;
 use exchange_bench::plain::mark::{Finding, Market, judge};
-use exchange_bench::plain::settle::{Rises, settle_ticket};
+use exchange_bench::plain::method::{Rises, settle_ticket};
 use exchange_bench::plain::settlement::{Agreement, Settlement};
 use exchange_bench::plain::ticket::Ticket;
 use exchange_bench::proved;

@@ -1,6 +1,6 @@
 //! Jumps: the prices of tied pilots rise together, as far as growers and pilots bear it.
 
-use super::settle::{Held, Offer, SIDE, State};
+use super::{Held, Offer, SIDE, State};
 
 /// More than any hour is worth.
 const MANY: u32 = 20_000;
