@@ -1,6 +1,7 @@
 //! The proved exchange beside a plain Rust one.
 
 pub mod draw;
+pub mod lemon;
 pub mod plain;
 pub mod proved;
 pub mod table;

@@ -4,10 +4,12 @@ use exchange_bench::draw::generator::Generator;
 use exchange_bench::draw::settlements::any_settlement;
 use exchange_bench::draw::shapes::shapes;
 use exchange_bench::draw::tickets::{STYLES, any_ticket, free_deals_of, ticket};
+use exchange_bench::lemon::{Begin, best_total};
 use exchange_bench::plain::flow::greatest_worth;
 use exchange_bench::plain::mark::{Finding, Market, judge};
 use exchange_bench::plain::method::{Rises, settle_ticket};
 use exchange_bench::plain::settlement::{Agreement, Settlement};
+use exchange_bench::plain::squares::TicketSquares;
 use exchange_bench::plain::ticket::Ticket;
 use exchange_bench::proved;
 
@@ -24,6 +26,7 @@ const FEW_PAIRS: usize = 16;
 const ABOVE_0: &str = "ticket, greatest worth above 0";
 const SOUND: &str = "sound settlement, worth the greatest";
 const OTHER: &str = "sound settlement with other hours, worth as much";
+const BY_LEMON: &str = "greatest worth, as LEMON finds it";
 const LESS: &str = "feasible settlement, worth less";
 const AS_MUCH: &str = "feasible settlement, not sound, worth as much";
 
@@ -43,6 +46,7 @@ impl Compared {
             ticket,
         };
         compared.sound(&compared.ours, tally);
+        compared.by_lemon(tally);
         if compared.greatest > 0 {
             tally.kind(ABOVE_0);
         }
@@ -60,6 +64,16 @@ impl Compared {
         tally.compared(SOUND);
         if hours(settlement).ne(hours(&self.ours)) {
             tally.kind(OTHER);
+        }
+    }
+
+    /// LEMON finds the same total, if it is there.
+    fn by_lemon(&self, tally: &mut Tally) {
+        for begin in Begin::BOTH {
+            if let Some(total) = best_total(&TicketSquares::of(&self.ticket), begin) {
+                assert_eq!(total, self.greatest, "{:?}", self.ticket);
+                tally.compared(BY_LEMON);
+            }
         }
     }
 
@@ -159,6 +173,9 @@ fn sound_settlements_have_the_greatest_worth() {
     tally.expect_at_least(TICKETS as u64 / 2, ABOVE_0);
     tally.expect_at_least(TICKETS as u64 / 20, OTHER);
     tally.expect_at_least(TICKETS as u64 / 2, LESS);
+    if cfg!(lemon) {
+        tally.expect_at_least(2 * TICKETS as u64, BY_LEMON);
+    }
 }
 
 #[test]
