@@ -4,5 +4,5 @@ pub mod draw;
 pub mod lemon;
 pub mod plain;
 pub mod proved;
-pub mod table;
+pub mod tables;
 pub mod timing;

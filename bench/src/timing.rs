@@ -1,7 +1,6 @@
-//! Times of two functions, measured by turns, in processor time of this thread: what else runs on the machine does not
-//! count, unless by shared caches and cores.
+//! Times of functions, measured by turns, in processor time of this thread: what else runs on the machine does not count,
+//! unless by shared caches and cores.
 
-use std::hint::black_box;
 use std::time::Duration;
 
 /// The most samples of each function, and the fewest, which are taken of what is slow.
@@ -14,27 +13,32 @@ const PATIENCE: Duration = Duration::from_secs(3);
 /// A sample is as many calls as take this long.
 pub const SAMPLE: Duration = Duration::from_micros(500);
 
-/// The median time of a call of each function. Samples of the two alternate, so that both meet the same machine.
-pub fn medians<R>(mut first: impl FnMut() -> R, mut second: impl FnMut() -> R) -> [Duration; 2] {
-    let calls = [calls_in_sample(&mut first), calls_in_sample(&mut second)];
-    let mut samples = [Vec::new(), Vec::new()];
+/// The median time of a call of each function. Samples of all alternate, so that they meet the same machine.
+pub fn medians<const N: usize>(mut functions: [&mut dyn FnMut(); N]) -> [Duration; N] {
+    let calls = functions.each_mut().map(calls_in_sample);
+    let mut samples = [const { Vec::new() }; N];
     let start = processor_time();
     for taken in 0..MOST_SAMPLES {
         if taken >= FEWEST_SAMPLES && processor_time() - start > PATIENCE {
             break;
         }
-        samples[0].push(sample(&mut first, calls[0]));
-        samples[1].push(sample(&mut second, calls[1]));
+        for ((function, &calls), samples) in functions.iter_mut().zip(&calls).zip(&mut samples) {
+            samples.push(sample(function, calls));
+        }
     }
     samples.map(median)
 }
 
 /// The time of one call, the median of three: for what takes long.
-pub fn median_of_three<R>(mut function: impl FnMut() -> R) -> Duration {
+pub fn median_of_three(mut function: impl FnMut()) -> Duration {
     median((0..3).map(|_| sample(&mut function, 1)).collect())
 }
 
-fn calls_in_sample<R>(function: &mut impl FnMut() -> R) -> u32 {
+pub fn once(mut function: impl FnMut()) -> Duration {
+    elapsed(&mut function, 1)
+}
+
+fn calls_in_sample(function: &mut impl FnMut()) -> u32 {
     let mut calls = 1;
     while elapsed(function, calls) < SAMPLE {
         calls *= 2;
@@ -43,14 +47,14 @@ fn calls_in_sample<R>(function: &mut impl FnMut() -> R) -> u32 {
 }
 
 /// The time of a call, the mean over so many.
-fn sample<R>(function: &mut impl FnMut() -> R, calls: u32) -> Duration {
+fn sample(function: &mut impl FnMut(), calls: u32) -> Duration {
     elapsed(function, calls) / calls
 }
 
-fn elapsed<R>(function: &mut impl FnMut() -> R, calls: u32) -> Duration {
+fn elapsed(function: &mut impl FnMut(), calls: u32) -> Duration {
     let start = processor_time();
     for _ in 0..calls {
-        black_box(function());
+        function();
     }
     processor_time() - start
 }

@@ -1,6 +1,18 @@
-//! Tables in Markdown.
+//! The tables of the benchmark, in Markdown.
+
+pub mod operations;
+pub mod settling;
 
 use std::time::Duration;
+
+use crate::timing::medians;
+
+/// Sizes of buffers that always suffice.
+const ACCOUNT_NUMBERS: usize = 48;
+pub const SETTLEMENT_BYTES: usize = 1027;
+const TICKET_BYTES: usize = 2083;
+const TICKET_NUMBERS: usize = 1315;
+const SHEET_BYTES: usize = 8216;
 
 pub struct Table {
     rows: Vec<Vec<String>>,
@@ -13,7 +25,9 @@ impl Table {
         }
     }
 
-    pub fn push(&mut self, row: Vec<String>) {
+    pub fn push(&mut self, name: &str, cells: Vec<String>) {
+        let mut row = vec![name.to_string()];
+        row.extend(cells);
         self.rows.push(row);
     }
 
@@ -44,4 +58,20 @@ pub fn time(duration: Duration) -> String {
 
 pub fn ratio(one: Duration, other: Duration) -> String {
     format!("{:.2}", one.as_secs_f64() / other.as_secs_f64())
+}
+
+/// The times of one call of each function in the mean over these inputs, none of which may be refused.
+fn mean_times<T, const N: usize>(
+    inputs: &[T],
+    mut functions: [&mut dyn FnMut(&T) -> bool; N],
+) -> [Duration; N] {
+    let mut over_all = functions
+        .each_mut()
+        .map(|function| || assert!(inputs.iter().all(&mut **function)));
+    medians(
+        over_all
+            .each_mut()
+            .map(|function| function as &mut dyn FnMut()),
+    )
+    .map(|time| time / inputs.len() as u32)
 }
