@@ -1,5 +1,6 @@
 //! Inputs drawn from a seed, and the tickets of the benchmark.
 
+pub mod changes;
 pub mod damage;
 pub mod generator;
 pub mod old_caps;
