@@ -108,48 +108,40 @@ pub fn guessing(shapes: &[Shape]) -> Table {
     row_by_row(&header, shapes, guessing_row)
 }
 
-/// A ticket, and its squares in euros and in cents.
-struct InBoth<'a> {
-    ticket: &'a Ticket,
-    euros: TicketSquares,
-    cents: TicketSquares,
-}
-
-impl InBoth<'_> {
-    fn of(ticket: &Ticket) -> InBoth<'_> {
-        InBoth {
-            ticket,
-            euros: TicketSquares::of(ticket),
-            cents: TicketSquares::of(&ticket.with_amounts_times(CENTS)),
-        }
-    }
-
-    /// How many of its two guesses are refused.
-    fn refused(&self) -> usize {
-        let guesses = [&self.euros, &self.cents].map(certified_guess);
-        guesses.iter().filter(|guess| guess.is_none()).count()
-    }
-}
-
 fn guessing_row(shape: &Shape) -> Vec<String> {
-    let tickets: Vec<_> = shape.tickets.iter().map(InBoth::of).collect();
-    let refused: usize = tickets.iter().map(InBoth::refused).sum();
-    let [turns, euros, cents] = mean_times(
-        &tickets,
-        [
-            &mut |both| is_done(settle_ticket(both.ticket, Rises::Jumps)),
-            &mut |both| is_done(certified_guess(&both.euros)),
-            &mut |both| is_done(certified_guess(&both.cents)),
-        ],
-    );
+    let tickets = &shape.tickets;
+    let in_cents: Vec<_> = tickets
+        .iter()
+        .map(|ticket| ticket.with_amounts_times(CENTS))
+        .collect();
+    let [squares, squares_in_cents] = [tickets, &in_cents].map(|tickets| squares_of(tickets));
+    // Right after one another the two would be quicker, as guesses of one ticket: they go the same ways.
+    let [euros, turns] = guess_and_turns(&squares, tickets);
+    let [cents, _] = guess_and_turns(&squares_in_cents, tickets);
+    let all: Vec<_> = squares.iter().chain(&squares_in_cents).collect();
+    let refused = all
+        .iter()
+        .filter(|squares| certified_guess(squares).is_none());
     vec![
         time(turns),
         time(euros),
         ratio(turns, euros),
         time(cents),
         ratio(cents, euros),
-        format!("{refused} of {}", 2 * tickets.len()),
+        format!("{} of {}", refused.count(), all.len()),
     ]
+}
+
+/// The guess and its test of some tickets, by turns with the method of turns of others.
+fn guess_and_turns(squares: &[TicketSquares], tickets: &[Ticket]) -> [Duration; 2] {
+    let inputs: Vec<_> = squares.iter().zip(tickets).collect();
+    mean_times(
+        &inputs,
+        [
+            &mut |(squares, _)| is_done(certified_guess(squares)),
+            &mut |(_, ticket)| is_done(settle_ticket(ticket, Rises::Jumps)),
+        ],
+    )
 }
 
 /// True, once something has been worked out.
