@@ -16,9 +16,11 @@ impl Places {
 
     /// Where a row has a value.
     pub(super) fn of(row: &Row, value: u16) -> Places {
-        let bits: Row =
-            std::array::from_fn(|place| if row[place] == value { 1 << place } else { 0 });
-        Places(bits.iter().fold(0, |all, bit| all | bit))
+        let mut bits = 0;
+        for (place, &number) in row.iter().enumerate() {
+            bits |= u16::from(number == value) << place;
+        }
+        Places(bits)
     }
 
     pub(super) fn is_empty(self) -> bool {
