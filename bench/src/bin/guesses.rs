@@ -2,10 +2,10 @@
 //!
 //! `cargo run --release --bin guesses -- [TICKETS] [SEED]`; without numbers it draws a million, from seed 0.
 
+use exchange_bench::arguments::numbers_given;
 use exchange_bench::draw::generator::Generator;
 use exchange_bench::draw::shapes::KINDS;
 use exchange_bench::draw::tickets::{STYLES, any_ticket_of};
-use exchange_bench::numbers_given;
 use exchange_bench::plain::settle::certified_guess;
 use exchange_bench::plain::squares::TicketSquares;
 use exchange_bench::plain::ticket::{CENTS, Ticket};

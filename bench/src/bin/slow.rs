@@ -6,11 +6,11 @@
 
 use std::time::{Duration, Instant};
 
+use exchange_bench::arguments::numbers_given;
 use exchange_bench::draw::changes::changed;
 use exchange_bench::draw::generator::Generator;
 use exchange_bench::draw::shapes::{KINDS, shapes};
 use exchange_bench::draw::tickets::{STYLES, ticket};
-use exchange_bench::numbers_given;
 use exchange_bench::plain::method::{Rises, settle_ticket};
 use exchange_bench::plain::settle::certified_guess;
 use exchange_bench::plain::squares::TicketSquares;

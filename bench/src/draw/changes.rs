@@ -95,3 +95,23 @@ fn other_number(generator: &mut Generator, number: u16, most: u16) -> u16 {
         _ => most.min(number + generator.between(1, 5)),
     }
 }
+
+#[cfg(test)]
+mod tests {
+    use super::super::generator::Generator;
+    use super::super::tickets::any_ticket;
+    use super::{Ticket, changed};
+
+    #[test]
+    fn changed_tickets_are_valid() {
+        let mut generator = Generator::new(0);
+        let mut differ = 0;
+        for _ in 0..10_000 {
+            let ticket = any_ticket(&mut generator);
+            let changed = changed(&mut generator, &ticket);
+            assert_eq!(Ticket::read(&changed.bytes()), Ok(changed.clone()));
+            differ += usize::from(changed != ticket);
+        }
+        assert!(differ > 5_000, "{differ} of 10,000 differ");
+    }
+}

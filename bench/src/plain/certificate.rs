@@ -6,10 +6,8 @@
 
 use std::array::from_fn;
 
+use super::rows::{ALL, differences, is_zero, least, sums, where_any};
 use super::squares::{Row, SIDE, SettlementSquares, TicketSquares};
-
-/// All ones: more than any hour earns, or a mark.
-const ALL: u16 = u16::MAX;
 
 /// Whether the certificate holds of a settlement of a ticket.
 pub fn certified(ticket: &TicketSquares, settlement: &SettlementSquares) -> bool {
@@ -128,13 +126,7 @@ impl Pairs<'_> {
     fn are_feasible(&self) -> bool {
         let (tariff, free) = hours_of(self.settlement, self.grower);
         let joint_gain = &self.ticket.joint_gain[self.grower];
-        let most_pay = from_fn(|pilot| {
-            if free[pilot] == 0 {
-                0
-            } else {
-                joint_gain[pilot]
-            }
-        });
+        let most_pay = where_any(free, joint_gain);
         is_zero(&differences(tariff, &self.ticket.tariff_cap[self.grower]))
             && is_zero(&differences(free, &self.ticket.free_cap[self.grower]))
             && is_zero(&differences(&self.settlement.pay[self.grower], &most_pay))
@@ -203,24 +195,7 @@ fn unfilled(hours: &Row, caps: &Row, faults: &Row) -> Row {
     })
 }
 
-/// What is left of each number; 0 where the other is greater.
-fn differences(one: &Row, other: &Row) -> Row {
-    from_fn(|place| one[place].saturating_sub(other[place]))
-}
-
-fn sums(one: &Row, other: &Row) -> Row {
-    from_fn(|place| one[place].saturating_add(other[place]))
-}
-
 fn sum(row: &Row) -> u16 {
     row.iter()
         .fold(0, |sum: u16, &number| sum.saturating_add(number))
-}
-
-fn least(row: &Row) -> u16 {
-    row.iter().fold(ALL, |least, &number| least.min(number))
-}
-
-fn is_zero(row: &Row) -> bool {
-    row.iter().fold(0, |any, number| any | number) == 0
 }

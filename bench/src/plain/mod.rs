@@ -9,6 +9,7 @@ pub mod guess;
 pub mod mark;
 pub mod method;
 pub mod numbers;
+mod rows;
 pub mod settle;
 pub mod settlement;
 pub mod sheet;

@@ -2,8 +2,8 @@
 
 use std::array::from_fn;
 
+use super::super::rows::{ALL, sums, where_any};
 use super::super::squares::{SIDE, Square};
-use super::rows::{ALL, later, where_any};
 
 pub(super) struct Deals<'a> {
     cap: &'a Square,
@@ -19,7 +19,7 @@ pub(super) struct Deals<'a> {
 impl<'a> Deals<'a> {
     /// Without any hours.
     pub(super) fn new(cap: &'a Square, gain: &Square) -> Deals<'a> {
-        let gain = gain.map(|row| later(&row, 1));
+        let gain = gain.map(|row| sums(&row, &[1; SIDE]));
         Deals {
             cap,
             gain,

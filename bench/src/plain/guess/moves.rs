@@ -1,7 +1,7 @@
 //! Hours move along a way to its last pilot.
 
 use super::super::Deal;
-use super::rows::ALL;
+use super::super::rows::ALL;
 use super::state::State;
 use super::ways::{Step, Ways};
 

@@ -1,7 +1,8 @@
 //! What growers are offered, and when a tariff ties with what they have.
 
+use super::super::rows::{ALL, greatest, least};
 use super::super::squares::Row;
-use super::rows::{ALL, better_offers, greatest, least, tariff_offers, tariff_waits, unreached};
+use super::rows::{better_offers, tariff_offers, tariff_waits, unreached};
 use super::state::State;
 
 impl State<'_> {

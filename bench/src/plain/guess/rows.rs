@@ -1,24 +1,9 @@
-//! Rows: each loop does the same at all sixteen places, so that it becomes vector code.
+//! What a guess does with rows of pilots and of growers.
 
 use std::array::from_fn;
 
+use super::super::rows::ALL;
 use super::super::squares::Row;
-
-/// All ones: no time, no worth, or a mark.
-pub(super) const ALL: u16 = u16::MAX;
-
-pub(super) fn least(row: &Row) -> u16 {
-    row.iter().fold(ALL, |least, &number| least.min(number))
-}
-
-pub(super) fn greatest(row: &Row) -> u16 {
-    row.iter().fold(0, |greatest, &number| greatest.max(number))
-}
-
-/// The numbers where the test is not 0, else 0.
-pub(super) fn where_any(test: &Row, row: &Row) -> Row {
-    from_fn(|place| if test[place] == 0 { 0 } else { row[place] })
-}
 
 /// What the tariffs of a grower offer him now: those count that pay what the pilot asks.
 pub(super) fn tariff_offers(open: &Row, pay: &Row, asked: &Row) -> Row {
@@ -69,7 +54,7 @@ pub(super) fn fallen(worths: &Row, by: u16) -> Row {
     })
 }
 
-/// When growers whose hours are worth so much are to be looked at, who have no better offer than the most.
+/// When growers are to be looked at whose hours are worth so much: not before the most that they are offered ties.
 pub(super) fn look_times(worth: &Row, most: &Row, now: u16) -> Row {
     from_fn(|grower| {
         worth[grower]
@@ -78,27 +63,11 @@ pub(super) fn look_times(worth: &Row, most: &Row, now: u16) -> Row {
     })
 }
 
-pub(super) fn later(row: &Row, by: u16) -> Row {
-    row.map(|number| number.saturating_add(by))
-}
-
-/// By how much each time is sooner than it was.
-pub(super) fn sooner(old: &Row, new: &Row) -> Row {
-    from_fn(|place| old[place].saturating_sub(new[place]))
-}
-
-/// Brings times forward.
-pub(super) fn bring_forward(times: &mut Row, by: &Row) {
-    for (time, by) in times.iter_mut().zip(by) {
-        *time = time.saturating_sub(*by);
-    }
-}
-
-/// Notes other numbers wherever a time is sooner.
-pub(super) fn note(row: &mut Row, sooner: &Row, other: &Row) {
-    for ((number, &sooner), &other) in row.iter_mut().zip(sooner).zip(other) {
+/// Takes over other numbers where the test is not 0.
+pub(super) fn note(row: &mut Row, test: &Row, other: &Row) {
+    for ((number, &test), &other) in row.iter_mut().zip(test).zip(other) {
         let old = *number;
-        *number = if sooner == 0 { old } else { other };
+        *number = if test == 0 { old } else { other };
     }
 }
 

@@ -3,10 +3,11 @@
 use std::ops::ControlFlow::{self, Break, Continue};
 
 use super::super::Deal;
+use super::super::rows::{ALL, differences, least};
 use super::super::squares::{Row, SIDE};
 use super::moves::{Displaced, Room};
 use super::places::Places;
-use super::rows::{ALL, bring_forward, fallen, least, lift, look_times, note, sooner, tie_times};
+use super::rows::{fallen, lift, look_times, note, tie_times};
 use super::state::State;
 use super::ways::{Step, Ways};
 
@@ -26,10 +27,10 @@ struct Search<'s, 't> {
     joins: Row,
     ways: Ways,
     /// Growers: what the least of their hours with pilots reached is worth now, all ones if they have none; and with which
-    /// pilot that is.
+    /// pilot that is. When it is worth nothing need not be a number of 16 bits.
     worths: Row,
     with: Row,
-    /// When to look at a grower; all ones if nobody has looked since he was reached.
+    /// When to look at a grower; and all ones if nobody has looked since he was reached.
     looks: Row,
     unseen: Row,
     /// When to look at the grower who asks.
@@ -221,8 +222,8 @@ impl<'s, 't> Search<'s, 't> {
     fn tie(&mut self, grower: usize, from: Option<usize>, worth: u16) {
         let free = &self.state.free.open[grower];
         let times = tie_times(free, &self.state.price, &self.reached, worth, self.now);
-        let sooner = sooner(&self.joins, &times);
-        bring_forward(&mut self.joins, &sooner);
+        let sooner = differences(&self.joins, &times);
+        self.joins = differences(&self.joins, &sooner);
         let step = Step {
             grower,
             deal: Deal::Free,
@@ -259,11 +260,11 @@ impl<'s, 't> Search<'s, 't> {
     /// Growers who have free-deal hours with a pilot are to be looked at, if these hours are the least that they have.
     fn reach_growers(&mut self, pilot: usize) {
         let worths = fallen(&self.state.free.noted[pilot], self.state.price[pilot]);
-        let sooner = sooner(&self.worths, &worths);
+        let less = differences(&self.worths, &worths);
         let looks = look_times(&worths, &self.state.most, self.now);
-        bring_forward(&mut self.worths, &sooner);
-        note(&mut self.looks, &sooner, &looks);
-        note(&mut self.with, &sooner, &[pilot as u16; SIDE]);
-        note(&mut self.unseen, &sooner, &[ALL; SIDE]);
+        self.worths = differences(&self.worths, &less);
+        note(&mut self.looks, &less, &looks);
+        note(&mut self.with, &less, &[pilot as u16; SIDE]);
+        note(&mut self.unseen, &less, &[ALL; SIDE]);
     }
 }

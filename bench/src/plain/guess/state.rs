@@ -1,10 +1,10 @@
 //! The state of a guess: prices, and the hours that come into deals and leave them.
 
 use super::super::Deal;
+use super::super::rows::{ALL, greatest, least, where_any};
 use super::super::squares::{Row, SIDE, SettlementSquares, TicketSquares};
 use super::deals::Deals;
 use super::places::Places;
-use super::rows::{ALL, greatest, least, where_any};
 
 /// Above every price.
 const SKY: u16 = 60_000;
