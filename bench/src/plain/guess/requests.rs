@@ -56,8 +56,7 @@ impl State<'_> {
             return None;
         }
         let ties = Places::of(&offers, top);
-        if let Some(pilot) = ties.iter().find(|&pilot| self.pilot_free[pilot] > 0) {
-            self.add_free_hours(grower, pilot, top);
+        if self.add_all(grower, top, ties) {
             return Some(grower);
         }
         if top == 1 {
@@ -66,8 +65,20 @@ impl State<'_> {
         Some(self.serve(grower, top, ties).unwrap_or(grower))
     }
 
-    /// Hours for the grower with a pilot who has free hours.
-    fn add_free_hours(&mut self, grower: usize, pilot: usize, top: u16) {
+    /// Hours for the grower with pilots who have free hours, while he has some; and whether any of them had.
+    fn add_all(&mut self, grower: usize, top: u16, pilots: Places) -> bool {
+        let mut added = false;
+        for pilot in pilots.iter() {
+            if self.grower_free[grower] > 0 && self.pilot_free[pilot] > 0 {
+                self.add_hours(grower, pilot, top);
+                added = true;
+            }
+        }
+        added
+    }
+
+    /// As many as both have free and the deal has room for.
+    fn add_hours(&mut self, grower: usize, pilot: usize, top: u16) {
         let deal = if self.takes_tariff(grower, pilot, top) {
             Deal::Tariff
         } else {

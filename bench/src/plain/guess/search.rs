@@ -165,19 +165,20 @@ impl<'s, 't> Search<'s, 't> {
             .come_by_tariff(self.root, &self.ways, grower, from, pilot)
     }
 
-    /// Nobody has room yet: a grower is looked at, or one more price begins to rise.
+    /// Nobody has room yet: growers are looked at, or the prices of more pilots begin to rise, unless an hour is worth nothing
+    /// more to the one who asks.
     fn go_on(&mut self, new: Places, look: u16) -> Outcome {
         if self.root_looks == self.now {
             return self.look_at_root();
         }
         if look == self.now {
-            return self.look_at_grower();
+            return self.look_at_growers();
         }
         if self.now == self.last() {
             return Break(None);
         }
-        if !new.is_empty() {
-            self.reach(new.first());
+        for pilot in new.iter() {
+            self.reach(pilot);
         }
         Continue(())
     }
@@ -192,8 +193,15 @@ impl<'s, 't> Search<'s, 't> {
         Continue(())
     }
 
-    fn look_at_grower(&mut self) -> Outcome {
-        let grower = Places::of(&self.looks, self.now).first();
+    /// All growers whose time it is, until a tariff ties.
+    fn look_at_growers(&mut self) -> Outcome {
+        for grower in Places::of(&self.looks, self.now).iter() {
+            self.look_at_grower(grower)?;
+        }
+        Continue(())
+    }
+
+    fn look_at_grower(&mut self, grower: usize) -> Outcome {
         let worth = self.worths[grower];
         if self.unseen[grower] != 0 {
             self.look_first(grower, worth);
