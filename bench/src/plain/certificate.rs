@@ -6,7 +6,7 @@
 
 use std::array::from_fn;
 
-use super::rows::{ALL, differences, is_zero, least, sums, where_any};
+use super::rows::{ALL, all_together, differences, is_zero, least, sums, where_any};
 use super::squares::{Row, SIDE, SettlementSquares, TicketSquares};
 
 /// Whether the certificate holds of a settlement of a ticket.
@@ -44,7 +44,7 @@ impl Parties {
         for grower in 0..ticket.growers {
             let (tariff, free) = hours_of(settlement, grower);
             let shares = differences(&ticket.joint_gain[grower], &settlement.pay[grower]);
-            growers.used[grower] = sum(&sums(tariff, free));
+            growers.used[grower] = all_together(&sums(tariff, free), u16::saturating_add);
             growers.earned[grower] = least(&lower(
                 lower([ALL; SIDE], tariff, &ticket.tariff_gain[grower]),
                 free,
@@ -193,9 +193,4 @@ fn unfilled(hours: &Row, caps: &Row, faults: &Row) -> Row {
             0
         }
     })
-}
-
-fn sum(row: &Row) -> u16 {
-    row.iter()
-        .fold(0, |sum: u16, &number| sum.saturating_add(number))
 }

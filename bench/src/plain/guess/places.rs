@@ -1,5 +1,8 @@
 //! Sets of places of a row.
 
+use std::array::from_fn;
+
+use super::super::rows::all_together;
 use super::super::squares::{Row, SIDE};
 
 /// A bit for each place.
@@ -16,11 +19,8 @@ impl Places {
 
     /// Where a row has a value.
     pub(super) fn of(row: &Row, value: u16) -> Places {
-        let mut bits = 0;
-        for (place, &number) in row.iter().enumerate() {
-            bits |= u16::from(number == value) << place;
-        }
-        Places(bits)
+        let bits = from_fn(|place| if row[place] == value { 1 << place } else { 0 });
+        Places(all_together(&bits, |one, other| one | other))
     }
 
     pub(super) fn is_empty(self) -> bool {
