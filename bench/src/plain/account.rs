@@ -1,7 +1,7 @@
 //! The account of a sound settlement: what everybody gains or earns, and what the exchange takes of each pilot's pay.
 
-use super::cheapest::judge;
 use super::mark::{Finding, grower_earns, pilot_earns};
+use super::quick::judge;
 use super::settlement::Settlement;
 use super::ticket::Ticket;
 use super::{Deal, Refusal, copy_to_front};

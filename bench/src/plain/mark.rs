@@ -166,8 +166,13 @@ impl Market<'_> {
                 }
             }
         }
+        self.sound()
+    }
+
+    /// The verdict on a settlement that is sound.
+    pub fn sound(&self) -> Verdict {
         Verdict {
-            count,
+            count: 2 * self.ticket.pairs(),
             worth: self.promised_worth(),
             ..party_verdict(Finding::Sound, 0, 0)
         }

@@ -3,12 +3,12 @@
 
 pub mod account;
 pub mod certificate;
-pub mod cheapest;
 pub mod flow;
 pub mod guess;
 pub mod mark;
 pub mod method;
 pub mod numbers;
+pub mod quick;
 mod rows;
 pub mod settle;
 pub mod settlement;

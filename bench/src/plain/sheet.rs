@@ -2,7 +2,7 @@
 
 use std::fmt::Write;
 
-use super::cheapest::judge;
+use super::quick::judge;
 use super::settle::settled;
 use super::settlement::{Agreement, Settlement};
 use super::ticket::{Terms, Ticket};

@@ -7,10 +7,12 @@ use super::{
 };
 use crate::draw::shapes::{ONLY_FREE, RANDOM};
 use crate::plain::account::account_into;
+use crate::plain::mark::Verdict;
 use crate::plain::settle::settled;
+use crate::plain::settlement::Settlement;
 use crate::plain::sheet::sheet;
 use crate::plain::ticket::{Ticket, pack, unpack};
-use crate::plain::{cheapest, mark};
+use crate::plain::{Refusal, mark, quick};
 use crate::proved;
 
 /// Every other operation, on the random tickets of 16 by 16.
@@ -25,25 +27,20 @@ pub fn operations() -> Table {
     };
     push("unpack", &|| unpack_times(&files));
     push("pack", &|| pack_times(&tickets));
-    push("mark, plain Rust by cheapest spares too", &|| {
-        mark_times(&tickets, |ticket, settlement| {
-            cheapest::mark(ticket, settlement).is_ok()
-        })
-    });
+    let sound = settled_files(&tickets);
+    let unsound = damaged_files(&tickets);
+    let only_free = settled_files(&ONLY_FREE.shape().tickets);
+    push("mark", &|| mark_times(&sound, quick::mark));
     push("mark, plain Rust trying every two spares", &|| {
-        mark_times(&tickets, |ticket, settlement| {
-            mark::mark(ticket, settlement).is_ok()
-        })
+        mark_times(&sound, mark::mark)
     });
-    push(
-        "mark, only free deals, plain Rust by cheapest spares too",
-        &|| {
-            mark_times(&ONLY_FREE.shape().tickets, |ticket, settlement| {
-                cheapest::mark(ticket, settlement).is_ok()
-            })
-        },
-    );
-    push("account", &|| account_times(&tickets));
+    push("mark, an hour missing", &|| {
+        mark_times(&unsound, quick::mark)
+    });
+    push("mark, only free deals", &|| {
+        mark_times(&only_free, quick::mark)
+    });
+    push("account", &|| account_times(&sound));
     push("sheet", &|| sheet_times(&files));
     table
 }
@@ -71,30 +68,48 @@ fn pack_times(tickets: &[Ticket]) -> [Duration; 2] {
     )
 }
 
-/// The files of these tickets, and of settlements of them.
-fn settled_files(tickets: &[Ticket]) -> Vec<(Vec<u8>, Vec<u8>)> {
+/// The files of a ticket and of a settlement of it.
+type Files = (Vec<u8>, Vec<u8>);
+
+fn settled_files(tickets: &[Ticket]) -> Vec<Files> {
     tickets
         .iter()
         .map(|ticket| (ticket.bytes(), settled(ticket).bytes()))
         .collect()
 }
 
-/// Marking the settlements of these tickets.
-fn mark_times(tickets: &[Ticket], plain: impl Fn(&[u8], &[u8]) -> bool) -> [Duration; 2] {
+/// The same, with an hour less in the last tariff deal that has any.
+fn damaged_files(tickets: &[Ticket]) -> Vec<Files> {
+    let damaged = |ticket| {
+        let mut settlement: Settlement = settled(ticket);
+        let mut agreements = settlement.agreements.iter_mut().rev();
+        if let Some(agreement) = agreements.find(|agreement| agreement.tariff_hours > 0) {
+            agreement.tariff_hours -= 1;
+        }
+        settlement.bytes()
+    };
+    tickets
+        .iter()
+        .map(|ticket| (ticket.bytes(), damaged(ticket)))
+        .collect()
+}
+
+type Marker = fn(&[u8], &[u8]) -> Result<Verdict, Refusal>;
+
+fn mark_times(files: &[Files], plain: Marker) -> [Duration; 2] {
     mean_times(
-        &settled_files(tickets),
+        files,
         [
             &mut |(ticket, settlement)| proved::mark(ticket, settlement).is_ok(),
-            &mut |(ticket, settlement)| plain(ticket, settlement),
+            &mut |(ticket, settlement)| plain(ticket, settlement).is_ok(),
         ],
     )
 }
 
-/// Their accounts.
-fn account_times(tickets: &[Ticket]) -> [Duration; 2] {
+fn account_times(files: &[Files]) -> [Duration; 2] {
     let (mut one, mut other) = ([0; ACCOUNT_NUMBERS], [0; ACCOUNT_NUMBERS]);
     mean_times(
-        &settled_files(tickets),
+        files,
         [
             &mut |(ticket, settlement)| proved::account(ticket, settlement, &mut one).is_ok(),
             &mut |(ticket, settlement)| account_into(ticket, settlement, &mut other).is_ok(),

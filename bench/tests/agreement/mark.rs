@@ -5,7 +5,7 @@ use exchange_bench::draw::tickets::any_ticket;
 use exchange_bench::plain::mark::mark;
 use exchange_bench::plain::settlement::Settlement;
 use exchange_bench::plain::ticket::Ticket;
-use exchange_bench::plain::{Refusal, cheapest, mark::Verdict};
+use exchange_bench::plain::{Refusal, mark::Verdict, quick};
 use exchange_bench::proved::{self, Answer};
 
 use crate::old_caps::{assert_refused, kinds};
@@ -38,12 +38,11 @@ pub fn worth_of(answer: Result<Verdict, Refusal>) -> Answer<u64> {
     }
 }
 
-/// The proved marker, the one that tries every spare, and the one by cheapest spares agree, on the worth too. Answers with
-/// their refusal.
+/// The proved marker, the one that tries every spare, and the quick one agree, on the worth too. Answers with their refusal.
 fn same_mark(ticket: &[u8], settlement: &[u8], tally: &mut Tally) -> Option<u8> {
     let answer = proved::mark(ticket, settlement);
     let worth = proved::worth(ticket, settlement);
-    for plain in [mark(ticket, settlement), cheapest::mark(ticket, settlement)] {
+    for plain in [mark(ticket, settlement), quick::mark(ticket, settlement)] {
         assert_eq!(answer, as_proved(plain));
         assert_eq!(worth, worth_of(plain));
     }

@@ -1,7 +1,10 @@
-//! Marking by cheapest spares, as the proved marker does it: the yardstick for its speed.
+//! Marking as the proved marker does it, the yardstick for its speed: what is certified is sound, and else deals are tested by
+//! cheapest spares.
 
+use super::certificate::certified;
 use super::mark::{FreeHours, Market, Place, Verdict, grower_earns, mark_by, pilot_earns};
 use super::settlement::{Agreement, Settlement};
+use super::squares::{SettlementSquares, TicketSquares};
 use super::ticket::{Terms, Ticket};
 use super::{Deal, Refusal};
 
@@ -12,7 +15,15 @@ pub fn mark(ticket: &[u8], settlement: &[u8]) -> Result<Verdict, Refusal> {
 
 /// Answers as `mark::judge` does.
 pub fn judge(ticket: &Ticket, settlement: &Settlement) -> Verdict {
-    Market { ticket, settlement }.judge_by(blocks)
+    let market = Market { ticket, settlement };
+    if certified(
+        &TicketSquares::of(ticket),
+        &SettlementSquares::of(settlement),
+    ) {
+        market.sound()
+    } else {
+        market.judge_by(blocks)
+    }
 }
 
 /// An unfilled deal blocks.
