@@ -8,6 +8,9 @@ const MANY: u32 = 20_000;
 /// More than any price.
 const TOP: u32 = 9001;
 
+/// A free deal may offer so many parts less and still tie.
+const CLOSE: u32 = 3;
+
 type Marks = [bool; SIDE];
 
 /// Raises the prices of a pilot and of those tied to him, if they all bear it.
@@ -40,9 +43,9 @@ fn tied(state: &State, pilot: usize) -> Marks {
     }
 }
 
-/// Marks every pilot whose free deal offers the grower as much as his least free-deal hour with a marked one, or one less.
+/// Marks every pilot whose free deal offers the grower as much as his least free-deal hour with a marked one, or little less.
 fn tie_in(state: &State, grower: usize, marks: &mut Marks) {
-    let low = least_worth(state, grower, marks).saturating_sub(1);
+    let low = least_worth(state, grower, marks).saturating_sub(CLOSE);
     for ((offer, held, price), mark) in row(state, grower).zip(marks) {
         *mark |= low <= offer.free_chance(held, price);
     }
