@@ -1,6 +1,6 @@
 -- The laws of a test that holds at every place.
 -- Assumes nothing.
-use Prim.Native.Nat.{ℕ, zero, suc, _+_, _≤_, _<_}
+use Prim.Native.Nat.{ℕ, zero, suc, _+_, _<_}
 use mathlib.Core.Path.{_≡_, refl}
 use mathlib.Core.Bool.{Bool, true, false, _&&_}
 use mathlib.Core.Logic.{⊎-elim}
@@ -22,10 +22,6 @@ every-turn f k a b ea eb = rw (add-one k, ea, eb)
 pub every-end : (f : ℕ → Bool) (k n : ℕ) (a : Bool) → k ≡ n → a ≡ every f k → a ≡ every f n
 every-end f k n a e ea = rw (← e) ea
 
-and-true : (a : Bool) → (a && true) ≡ a
-and-true true = refl
-and-true false = refl
-
 pub both : (a b : Bool) → (a && b) ≡ true → (a ≡ true) × (b ≡ true)
 both true b e = (refl, e)
 both false b e = never cc
@@ -41,12 +37,3 @@ pub every-same : (f g : ℕ → Bool) (k : ℕ) → ((p : ℕ) → p < k → f p
 unfolding every
 every-same f g zero e = refl
 every-same f g (suc k) e = rw (every-same f g k (λ p h. e p (omega arith)), e k (omega arith))
-
--- beyond n nothing is tested
-pub every-beyond : (f : ℕ → Bool) (n k : ℕ) → n ≤ k → ((p : ℕ) → n ≤ p → p < k → f p ≡ true) → every f k ≡ every f n
-unfolding every
-every-beyond f n zero h e = let none : n ≡ 0 = omega arith in rw none
-every-beyond f n (suc k) h e = ⊎-elim
-    (λ same. rw same)
-    (λ other. rw (every-beyond f n k (omega arith) (λ p low high. e p low (omega arith)), e k (omega arith) (omega arith)) (and-true (every f n)))
-    (eq-or-ne n (suc k))

@@ -6,7 +6,6 @@ use mathlib.Core.Logic.{⊎-elim}
 use native.Mathlib.Numerals.{add-one}
 use native.Mathlib.Omega.{arith}
 use borrow.Author.Tests.{lt-ltb, le-ltb}
-use Rattle.grid.specs.Sum.{sum}
 use Rattle.grid.proofs.Cases.{lt-or-le, eq-or-ne}
 use Rattle.grid.proofs.Sums.{sum-same}
 use Rattle.certificate.specs.declared.Party.{Party}
@@ -25,24 +24,6 @@ module _ (tariff earned free share : ℕ → ℕ) where
       min a (min b c) ≡ least (k + 1)
   unfolding leastEarned
   least-turn k a b c ea eb ec = rw (add-one k, ea, eb, ec)
-
-  least-bound : (k : ℕ) → least k ≤ 65535
-  unfolding leastEarned
-  least-bound zero = omega arith
-  least-bound (suc k) = omega (arith, least-bound k)
-
-  -- partners without hours change nothing
-  pub least-beyond : (n k : ℕ) → n ≤ k → ((l : ℕ) → n ≤ l → l < k → (tariff l ≡ 0) × (free l ≡ 0)) → least k ≡ least n
-  unfolding leastEarned
-  least-beyond n zero h e = let none : n ≡ 0 = omega arith in rw none
-  least-beyond n (suc k) h e = ⊎-elim
-      (λ same. rw same)
-      (λ other. rw (
-        least-beyond n k (omega arith) (λ l low high. e l low (omega arith)),
-        e k (omega arith) (omega arith) .0,
-        e k (omega arith) (omega arith) .1,
-      ) (omega (arith, least-bound n)))
-      (eq-or-ne n (suc k))
 
   -- no hour with a partner earns less
   pub least-tariff : (k l : ℕ) → l < k → 0 < tariff l → least k ≤ earned l
@@ -74,15 +55,6 @@ least-same tariff earned free share tariff′ earned′ free′ share′ (suc k)
       least-same tariff earned free share tariff′ earned′ free′ share′ k (λ l h. e l (omega arith)),
     )
 
--- hours with partners who have none add nothing
-pub sum-beyond : (f : ℕ → ℕ) (n k : ℕ) → n ≤ k → ((l : ℕ) → n ≤ l → l < k → f l ≡ 0) → sum f k ≡ sum f n
-unfolding sum
-sum-beyond f n zero h e = let none : n ≡ 0 = omega arith in rw none
-sum-beyond f n (suc k) h e = ⊎-elim
-    (λ same. rw same)
-    (λ other. omega (arith, sum-beyond f n k (omega arith) (λ l low high. e l low (omega arith)), e k (omega arith) (omega arith)))
-    (eq-or-ne n (suc k))
-
 -- no hour of a party is worth less than his least: a free hour, and hours of deals that earn at least standby
 least-hour : (unused standby earned worth : ℕ) → standby ≤ worth → earned ≤ worth → leastOf unused standby earned ≤ worth
 least-hour unused standby earned worth s e = ⊎-elim
@@ -102,3 +74,15 @@ module _ (own standby : ℕ) (tariff earned free share : ℕ → ℕ) (k : ℕ) 
 
   pub party-free : (l : ℕ) → l < k → 0 < free l → standby ≤ share l → party .least ≤ share l
   party-free l h some s = least-hour (party .free) standby _ (share l) s (least-free tariff earned free share k l h some)
+
+-- the same numbers make the same party
+pub party-same : (own standby standby′ : ℕ) (tariff earned free share tariff′ earned′ free′ share′ : ℕ → ℕ) (k : ℕ) →
+    standby ≡ standby′ → ((l : ℕ) → l < k →
+    (tariff l ≡ tariff′ l) × (earned l ≡ earned′ l) × (free l ≡ free′ l) × (share l ≡ share′ l)) →
+    partyOf own standby tariff earned free share k ≡ partyOf own standby′ tariff′ earned′ free′ share′ k
+party-same own standby standby′ tariff earned free share tariff′ earned′ free′ share′ k es e =
+    rw (
+      es,
+      sum-same (λ l. tariff l + free l) (λ l. tariff′ l + free′ l) k (λ l h. omega (arith, e l h .0, e l h .2)),
+      least-same tariff earned free share tariff′ earned′ free′ share′ k e,
+    )

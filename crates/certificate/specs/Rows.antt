@@ -1,73 +1,59 @@
--- The same of rows and squares, as the code holds them: rows of sixteen, of whom some partners may be absent.
+-- The same of rows and squares, as the code holds them.
 -- Assumes nothing.
-use Prim.Native.Nat.{ℕ, _+_, _-_, _<_}
+use Prim.Native.Nat.{ℕ, _+_, _<_}
 use mathlib.Core.Path.{_≡_}
-use mathlib.Core.Bool.{Bool, _||_}
+use mathlib.Core.Bool.{Bool}
 use mathlib.Core.List.{List, []}
-use lib.Dec.{leb, ltb}
+use lib.Dec.{leb}
 use lib.ListN.{getD}
-use Rattle.grid.specs.Pick.{pick}
 use Rattle.grid.specs.Sum.{sum}
-use Rattle.grid.specs.Grid.{Grid}
+use Rattle.grid.specs.Grid.{Grid, at}
 use Rattle.certificate.specs.declared.Party.{Party}
 use Rattle.certificate.specs.declared.Side.{Side}
-use Rattle.certificate.specs.Certified.{every, leastEarned, leastOf, pairKept}
+use Rattle.certificate.specs.Certified.{every, leastEarned, partyOf, pairKept}
 
 -- a row of numbers
 abbrev pub line : List ℕ → ℕ → ℕ
 line l k = getD l k 0
 
--- of sixteen partners the first n are there, and the others absent
-abbrev pub absentAt : ℕ → ℕ → ℕ
-absentAt n l = pick (ltb l n) 0 1
-
-abbrev pub Absent : ℕ → List ℕ → Type 0
-Absent n absent = (l : ℕ) → l < 16 → line absent l ≡ absentAt n l
-
--- hours with a partner, if he is there
-abbrev pub shown : ℕ → ℕ → ℕ
-shown absent hours = pick (ltb 0 absent) 0 hours
-
-abbrev pub hoursShown : List ℕ → List ℕ → ℕ → ℕ
-hoursShown absent row l = shown (line absent l) (line row l)
-
 -- the hours over all deals with k partners, and the least that one of them earns
-abbrev pub usedIn : (absent tariff free : List ℕ) → ℕ → ℕ
-usedIn absent tariff free = sum (λ l. hoursShown absent tariff l + hoursShown absent free l)
+abbrev pub usedIn : (tariff free : List ℕ) → ℕ → ℕ
+usedIn tariff free = sum (λ l. line tariff l + line free l)
 
-abbrev pub leastIn : (absent tariff earned free share : List ℕ) → ℕ → ℕ
-leastIn absent tariff earned free share = leastEarned (hoursShown absent tariff) (line earned) (hoursShown absent free) (line share)
+abbrev pub leastIn : (tariff earned free share : List ℕ) → ℕ → ℕ
+leastIn tariff earned free share = leastEarned (line tariff) (line earned) (line free) (line share)
 
--- one of sixteen parties
-abbrev pub partyIn : Side → ℕ → Party
-partyIn s p = record { free = line (s .free) p; standby = line (s .standby) p; least = line (s .least) p }
+-- one of sixteen parties, in rows, and of a side
+abbrev pub partyIn : (free standby least : List ℕ) → ℕ → Party
+partyIn free standby least p = record { free = line free p; standby = line standby p; least = line least p }
 
-module _ (absent own standby : List ℕ) (tariff earned free share : Grid) where
-  -- the hours of the party of the rows at a place of four squares, and the party
-  abbrev pub usedAt : ℕ → ℕ
-  usedAt p = usedIn absent (getD tariff p []) (getD free p []) 16
+abbrev pub partyOn : Side → ℕ → Party
+partyOn s = partyIn (s .free) (s .standby) (s .least)
 
-  abbrev pub partyAt : ℕ → Party
-  partyAt p =
-      let unused = line own p - usedAt p in
-      let lowest = leastIn absent (getD tariff p []) (getD earned p []) (getD free p []) (getD share p []) 16 in
-      record { free = unused; standby = line standby p; least = leastOf unused (line standby p) lowest }
+-- the party of the rows at a place of four squares, with k partners
+abbrev pub partyAt : (k : ℕ) (own standby : List ℕ) (tariff earned free share : Grid) → ℕ → Party
+partyAt k own standby tariff earned free share p =
+    partyOf (line own p) (line standby p) (at tariff p) (at earned p) (at free p) (at share p) k
 
 -- the first parties of one side
-pub record IsSide (count : ℕ) (absent own standby : List ℕ) (tariff earned free share : Grid) (s : Side) : Type 0 where
-  pub fits : s .fits ≡ every (λ p. leb (usedAt absent own standby tariff earned free share p) (line own p)) count
-  pub parties : (p : ℕ) → p < count → partyIn s p ≡ partyAt absent own standby tariff earned free share p
+pub record IsSide (count k : ℕ) (own standby : List ℕ) (tariff earned free share : Grid) (s : Side) : Type 0 where
+  pub fits : s .fits ≡ every (λ p. leb (usedIn (getD tariff p []) (getD free p []) k) (line own p)) count
+  pub parties : (p : ℕ) → p < count → partyOn s p ≡ partyAt k own standby tariff earned free share p
 
--- the pairs of a grower and those of the first k pilots who are there, in rows
-abbrev pub rowKept : (g : Party) (pilots : Side)
-    (absent tariffCap tariffGain tariffPay freeCap jointGain tariffHours freeDealHours pay : List ℕ) → ℕ → Bool
-rowKept g pilots absent tariffCap tariffGain tariffPay freeCap jointGain tariffHours freeDealHours pay =
-    every (λ j. ltb 0 (line absent j) || pairKept g (partyIn pilots j) (line tariffCap j) (line tariffGain j) (line tariffPay j)
+-- the pairs of a grower and the first k pilots, in rows
+abbrev pub rowKept : (g : Party)
+    (free standby least tariffCap tariffGain tariffPay freeCap jointGain tariffHours freeDealHours pay : List ℕ) → ℕ → Bool
+rowKept g free standby least tariffCap tariffGain tariffPay freeCap jointGain tariffHours freeDealHours pay =
+    every (λ j. pairKept g (partyIn free standby least j) (line tariffCap j) (line tariffGain j) (line tariffPay j)
     (line freeCap j) (line jointGain j) (line tariffHours j) (line freeDealHours j) (line pay j))
 
 -- the same of the first k growers, in squares
-abbrev pub rowsKept : (growers pilots : Side) (absent : List ℕ)
+abbrev pub rowsKept : (gf gs gl pf ps pl : List ℕ) (m : ℕ)
     (tariffCap tariffGain tariffPay freeCap jointGain tariffHours freeDealHours pay : Grid) → ℕ → Bool
-rowsKept growers pilots absent tariffCap tariffGain tariffPay freeCap jointGain tariffHours freeDealHours pay =
-    every (λ i. rowKept (partyIn growers i) pilots absent (getD tariffCap i []) (getD tariffGain i []) (getD tariffPay i [])
-    (getD freeCap i []) (getD jointGain i []) (getD tariffHours i []) (getD freeDealHours i []) (getD pay i []) 16)
+rowsKept gf gs gl pf ps pl m tariffCap tariffGain tariffPay freeCap jointGain tariffHours freeDealHours pay =
+    every (λ i. rowKept (partyIn gf gs gl i) pf ps pl (getD tariffCap i []) (getD tariffGain i []) (getD tariffPay i [])
+    (getD freeCap i []) (getD jointGain i []) (getD tariffHours i []) (getD freeDealHours i []) (getD pay i []) m)
+
+abbrev pub sidesKept : (growers pilots : Side) (m : ℕ)
+    (tariffCap tariffGain tariffPay freeCap jointGain tariffHours freeDealHours pay : Grid) → ℕ → Bool
+sidesKept g p = rowsKept (g .free) (g .standby) (g .least) (p .free) (p .standby) (p .least)

@@ -1,6 +1,5 @@
 // The test whether the least hours of all parties certify a settlement. It is quick, and enough for soundness. Squares are of growers by
-// pilots and go by value. Every loop over partners goes over all sixteen places of its rows, so that it becomes vector code; a row says
-// who is absent.
+// pilots and go by value. What is known of parties stands in rows, so that loops over partners become vector code.
 mod pairs;
 mod parties;
 
@@ -12,7 +11,6 @@ use grid::differences;
 use grid::turned;
 use grid::zero_row;
 use pairs::rows_kept;
-use parties::absent;
 use parties::side;
 
 // A grower or a pilot: his free hours, what one is worth to him, and what each hour of his is worth to him at least.
@@ -52,10 +50,9 @@ pub fn certified(
     let n = numbers::within(growers);
     let m = numbers::within(pilots);
     let none = zero_row();
-    let no_pilot = absent(m);
     let of_growers = side(
         n,
-        no_pilot,
+        m,
         grower_hours,
         none,
         tariff_hours,
@@ -65,7 +62,7 @@ pub fn certified(
     );
     let of_pilots = side(
         m,
-        absent(n),
+        n,
         pilot_hours,
         none,
         turned(tariff_hours, n, m),
@@ -77,9 +74,9 @@ pub fn certified(
         & of_pilots.fits
         & rows_kept(
             n,
+            m,
             of_growers,
             of_pilots,
-            no_pilot,
             tariff_cap,
             tariff_gain,
             tariff_pay,

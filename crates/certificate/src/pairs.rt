@@ -4,7 +4,7 @@ ghost use mathlib.Core.Path.{_≡_};
 ghost use Prim.Native.Nat.{_+_, _<_, _≤_};
 ghost use lib.Dec.{leb};
 ghost use Rattle.certificate.specs.Certified.{feasible, worthwhile, tariffKept, freeKept, pairKept};
-ghost use Rattle.certificate.specs.Rows.{partyIn, rowKept, rowsKept};
+ghost use Rattle.certificate.specs.Rows.{rowKept, sidesKept};
 use crate::Party;
 use crate::Side;
 use numbers::less;
@@ -122,23 +122,13 @@ fn pair_kept(
         & free_kept(grower, pilot, free_cap, joint_gain, free_deal_hours)
 }
 
-// One of sixteen parties.
-fn party_in(side: Side, p: usize) -> Party
-    requires { ⌜ p < 16 ⌝ }
-    ensures { λ r. ⌜ r ≡ partyIn side p ⌝ }
-{
-    Party {
-        free: side.free[p],
-        standby: side.standby[p],
-        least: side.least[p],
-    }
-}
-
-// The pairs of a grower and the pilots who are there, by the grower's rows.
+// The pairs of a grower and the first so many pilots, by the rows of the pilots and of the grower.
 fn row_kept(
     grower: Party,
-    pilots: Side,
-    absent: [u16; 16],
+    free: [u16; 16],
+    standby: [u16; 16],
+    least: [u16; 16],
+    count: usize,
     tariff_cap: [u16; 16],
     tariff_gain: [u16; 16],
     tariff_pay: [u16; 16],
@@ -148,14 +138,20 @@ fn row_kept(
     free_deal_hours: [u16; 16],
     pay: [u16; 16],
 ) -> bool
-    ensures { λ r. ⌜ r ≡ rowKept grower pilots absent «tariff_cap» «tariff_gain» «tariff_pay» «free_cap» «joint_gain»
-        «tariff_hours» «free_deal_hours» pay 16 ⌝ }
+    requires { ⌜ count ≤ 16 ⌝ }
+    ensures { λ r. ⌜ r ≡ rowKept grower «free» standby least «tariff_cap» «tariff_gain» «tariff_pay» «free_cap» «joint_gain»
+        «tariff_hours» «free_deal_hours» pay count ⌝ }
 {
     let mut kept = true;
-    for j in 0..numbers::SIDE {
+    for j in 0..count {
+        let pilot = Party {
+            free: free[j],
+            standby: standby[j],
+            least: least[j],
+        };
         let this = pair_kept(
             grower,
-            party_in(pilots, j),
+            pilot,
             tariff_cap[j],
             tariff_gain[j],
             tariff_pay[j],
@@ -165,17 +161,17 @@ fn row_kept(
             free_deal_hours[j],
             pay[j],
         );
-        kept = kept & ((0 < absent[j]) | this);
+        kept = kept & this;
     }
     kept
 }
 
-// The same of the first so many growers, by squares.
+// The same of n growers and m pilots, by squares.
 pub(crate) fn rows_kept(
-    count: usize,
+    n: usize,
+    m: usize,
     growers: Side,
     pilots: Side,
-    absent: [u16; 16],
     tariff_cap: [[u16; 16]; 16],
     tariff_gain: [[u16; 16]; 16],
     tariff_pay: [[u16; 16]; 16],
@@ -185,17 +181,31 @@ pub(crate) fn rows_kept(
     free_deal_hours: [[u16; 16]; 16],
     pay: [[u16; 16]; 16],
 ) -> bool
-    requires { ⌜ count ≤ 16 ⌝ }
-    ensures { λ r. ⌜ r ≡ rowsKept growers pilots absent «tariff_cap» «tariff_gain» «tariff_pay» «free_cap» «joint_gain»
-        «tariff_hours» «free_deal_hours» pay count ⌝ }
+    requires { ⌜ (n ≤ 16) × (m ≤ 16) ⌝ }
+    ensures { λ r. ⌜ r ≡ sidesKept growers pilots m «tariff_cap» «tariff_gain» «tariff_pay» «free_cap» «joint_gain»
+        «tariff_hours» «free_deal_hours» pay n ⌝ }
 {
+    // rows of their own: a side that is read in a loop is copied at every turn
+    let free = growers.free;
+    let standby = growers.standby;
+    let least = growers.least;
+    let pilots_free = pilots.free;
+    let pilots_standby = pilots.standby;
+    let pilots_least = pilots.least;
     let mut kept = true;
-    for i in 0..count {
+    for i in 0..n {
+        let grower = Party {
+            free: free[i],
+            standby: standby[i],
+            least: least[i],
+        };
         kept = kept
             & row_kept(
-                party_in(growers, i),
-                pilots,
-                absent,
+                grower,
+                pilots_free,
+                pilots_standby,
+                pilots_least,
+                m,
                 tariff_cap[i],
                 tariff_gain[i],
                 tariff_pay[i],

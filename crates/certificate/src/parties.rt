@@ -2,7 +2,7 @@
 ghost use mathlib.Core.Path.{_≡_};
 ghost use Prim.Native.Nat.{_≤_};
 ghost use Rattle.certificate.specs.Certified.{worthOf, leastOf};
-ghost use Rattle.certificate.specs.Rows.{absentAt, Absent, shown, usedIn, leastIn, IsSide};
+ghost use Rattle.certificate.specs.Rows.{usedIn, leastIn, IsSide};
 use crate::Side;
 use grid::zero_row;
 use numbers::left;
@@ -11,31 +11,6 @@ use numbers::wide;
 
 // What an hour is worth where there is none: above every amount.
 const NO_HOUR: u16 = 65535;
-
-// Whether a partner is not one of the first so many, as a number.
-fn is_absent(count: usize, l: usize) -> u16
-    ensures { λ r. ⌜ r ≡ absentAt count l ⌝ }
-{
-    if l < count { 0 } else { 1 }
-}
-
-// The same of sixteen.
-pub(crate) fn absent(count: usize) -> [u16; 16]
-    ensures { λ r. ⌜ Absent count r ⌝ }
-{
-    let mut row = zero_row();
-    for l in 0..numbers::SIDE {
-        row[l] = is_absent(count, l);
-    }
-    row
-}
-
-// Hours with a partner, if he is there.
-fn shown(absent: u16, hours: u16) -> u16
-    ensures { λ r. ⌜ r ≡ shown absent hours ⌝ }
-{
-    if 0 < absent { 0 } else { hours }
-}
 
 // What an hour of a deal earns, if the deal has hours.
 fn worth_of(hours: u16, earned: u16) -> u16
@@ -52,42 +27,42 @@ fn least_of(free: u16, standby: u16, earned: u16) -> u16
 }
 
 // A party's hours over all deals.
-fn used(absent: [u16; 16], tariff: [u16; 16], free: [u16; 16]) -> u32
-    ensures { λ r. ⌜ r ≡ usedIn absent tariff «free» 16 ⌝ }
+fn used(tariff: [u16; 16], free: [u16; 16], partners: usize) -> u32
+    requires { ⌜ partners ≤ 16 ⌝ }
+    ensures { λ r. ⌜ r ≡ usedIn tariff «free» partners ⌝ }
 {
     let mut total: u32 = 0;
-    for l in 0..numbers::SIDE {
-        let no_one = absent[l];
-        total += wide(shown(no_one, tariff[l])) + wide(shown(no_one, free[l]));
+    for l in 0..partners {
+        total += wide(tariff[l]) + wide(free[l]);
     }
     total
 }
 
 // The least that an hour of a deal earns a party.
 fn least_earned(
-    absent: [u16; 16],
     tariff: [u16; 16],
     earned: [u16; 16],
     free: [u16; 16],
     share: [u16; 16],
+    partners: usize,
 ) -> u16
-    ensures { λ r. ⌜ r ≡ leastIn absent tariff earned «free» share 16 ⌝ }
+    requires { ⌜ partners ≤ 16 ⌝ }
+    ensures { λ r. ⌜ r ≡ leastIn tariff earned «free» share partners ⌝ }
 {
     let mut least = NO_HOUR;
-    for l in 0..numbers::SIDE {
-        let no_one = absent[l];
-        let by_tariff = worth_of(shown(no_one, tariff[l]), earned[l]);
-        let in_free_deal = worth_of(shown(no_one, free[l]), share[l]);
+    for l in 0..partners {
+        let by_tariff = worth_of(tariff[l], earned[l]);
+        let in_free_deal = worth_of(free[l], share[l]);
         least = lesser(least, lesser(by_tariff, in_free_deal));
     }
     least
 }
 
-// The first so many parties of one side by their rows in four squares: hours by the tariff and what one earns, hours of free deals and the
+// The first so many parties of one side, with so many partners, by their rows in four squares: hours by the tariff and what one earns, hours of free deals and the
 // share of one.
 pub(crate) fn side(
     count: usize,
-    absent: [u16; 16],
+    partners: usize,
     own: [u16; 16],
     standby: [u16; 16],
     tariff: [[u16; 16]; 16],
@@ -95,16 +70,16 @@ pub(crate) fn side(
     free: [[u16; 16]; 16],
     share: [[u16; 16]; 16],
 ) -> Side
-    requires { ⌜ count ≤ 16 ⌝ }
-    ensures { λ r. ⌜ IsSide count absent own standby tariff earned «free» share r ⌝ }
+    requires { ⌜ (count ≤ 16) × (partners ≤ 16) ⌝ }
+    ensures { λ r. ⌜ IsSide count partners own standby tariff earned «free» share r ⌝ }
 {
     let mut fits = true;
     let mut unused = zero_row();
     let mut least = zero_row();
     for p in 0..count {
-        let total = used(absent, tariff[p], free[p]);
+        let total = used(tariff[p], free[p], partners);
         let hours = left(own[p], total);
-        let lowest = least_earned(absent, tariff[p], earned[p], free[p], share[p]);
+        let lowest = least_earned(tariff[p], earned[p], free[p], share[p], partners);
         fits = fits & (total <= wide(own[p]));
         unused[p] = hours;
         least[p] = least_of(hours, standby[p], lowest);

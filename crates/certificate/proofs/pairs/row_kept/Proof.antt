@@ -10,17 +10,17 @@ use Rattle.certificate.proofs.pairs.row_kept.Statement.{statement}
 use Rattle.certificate.proofs.pairs.row_kept.Tie as tie
 
 abbrev Inv-loop : tie.InvT-loop
-Inv-loop grower pilots absent tariff-cap tariff-gain tariff-pay free-cap joint-gain tariff-hours free-deal-hours pay kept₀ j₀ kept j =
-    (j ≤ 16) × (kept ≡ rowKept grower pilots absent tariff-cap tariff-gain tariff-pay free-cap joint-gain tariff-hours free-deal-hours pay j)
+Inv-loop grower count free standby least tariff-cap tariff-gain tariff-pay free-cap joint-gain tariff-hours free-deal-hours pay kept₀ j₀ kept j =
+    (j ≤ count) × (kept ≡ rowKept grower free standby least tariff-cap tariff-gain tariff-pay free-cap joint-gain tariff-hours free-deal-hours pay j)
 
 abbrev μ-loop : tie.MeasureT-loop
-μ-loop grower pilots absent tariff-cap tariff-gain tariff-pay free-cap joint-gain tariff-hours free-deal-hours pay kept₀ j₀ kept j = 16 - j
+μ-loop grower count free standby least tariff-cap tariff-gain tariff-pay free-cap joint-gain tariff-hours free-deal-hours pay kept₀ j₀ kept j = count - j
 
 loop-holds : tie.Need-loop-holds Inv-loop μ-loop
 loop-holds c = (search needs, sym (every-none _))
 
 loop-again : tie.Need-loop-again Inv-loop μ-loop
-loop-again c = (search needs, every-turn _ _ _ _ (c .before .before .before .loop .inv .1) (rw (c .pair-kept .ensures, c .before .party-in .ensures)))
+loop-again c = (search needs, every-turn _ _ _ _ (c .before .before .loop .inv .1) (rw (c .pair-kept .ensures)))
 
 returns : tie.Need-returns Inv-loop μ-loop
 returns c = every-end _ _ _ _ (omega arith) (c .before .loop .inv .1)
@@ -32,26 +32,29 @@ row-kept-spec =
     Inv-loop
     μ-loop
     loop-holds
+    (λ c. search needs)
+    (λ c. search needs)
+    (λ c. search needs)
+    (λ c. search needs)
+    (λ c. search needs)
+    (λ c. search needs)
+    (λ c. search needs)
+    (λ c. search needs)
+    (λ c. search needs)
+    (λ c. search needs)
+    (λ c. search needs)
+    (λ c. search needs)
+    (λ c. search needs)
+    (λ c. search needs)
+    (λ c. search needs)
+    (λ c. search needs)
+    (λ c. search needs)
+    (λ c. search needs)
+    (λ c. search needs)
+    (λ c. search needs)
+    (λ c. search needs)
+    (λ c. search needs)
     (λ c κs. search needs)
-    (λ c. search needs)
-    (λ c. search needs)
-    (λ c. search needs)
-    (λ c. search needs)
-    (λ c. search needs)
-    (λ c. search needs)
-    (λ c. search needs)
-    (λ c. search needs)
-    (λ c. search needs)
-    (λ c. search needs)
-    (λ c. search needs)
-    (λ c. search needs)
-    (λ c. search needs)
-    (λ c. search needs)
-    (λ c. search needs)
-    (λ c. search needs)
-    (λ c κs. search needs)
-    (λ c. search needs)
-    (λ c. search needs)
     (λ c. search needs)
     (λ c. search needs)
     loop-again

@@ -10,21 +10,21 @@ use Rattle.certificate.proofs.pairs.rows_kept.Statement.{statement}
 use Rattle.certificate.proofs.pairs.rows_kept.Tie as tie
 
 abbrev Inv-loop : tie.InvT-loop
-Inv-loop count growers pilots absent tariff-cap tariff-gain tariff-pay free-cap joint-gain tariff-hours free-deal-hours pay kept₀ i₀ kept i =
-    (i ≤ count) ×
-    (kept ≡ rowsKept growers pilots absent tariff-cap tariff-gain tariff-pay free-cap joint-gain tariff-hours free-deal-hours pay i)
+Inv-loop n m tariff-cap tariff-gain tariff-pay free-cap joint-gain tariff-hours free-deal-hours pay free standby least pilots-free pilots-standby pilots-least kept₀ i₀ kept i =
+    (i ≤ n) × (kept ≡ rowsKept free standby least pilots-free pilots-standby pilots-least m tariff-cap tariff-gain tariff-pay
+    free-cap joint-gain tariff-hours free-deal-hours pay i)
 
 abbrev μ-loop : tie.MeasureT-loop
-μ-loop count growers pilots absent tariff-cap tariff-gain tariff-pay free-cap joint-gain tariff-hours free-deal-hours pay kept₀ i₀ kept i =
-    count - i
+μ-loop n m tariff-cap tariff-gain tariff-pay free-cap joint-gain tariff-hours free-deal-hours pay free standby least pilots-free pilots-standby pilots-least kept₀ i₀ kept i =
+    n - i
 
 loop-holds : tie.Need-loop-holds Inv-loop μ-loop
 loop-holds c = (search needs, sym (every-none _))
 
 loop-again : tie.Need-loop-again Inv-loop μ-loop
 loop-again c =
-    let grower = c .before .before .before .before .before .before .before .before .before in
-    (search needs, every-turn _ _ _ _ (grower .before .before .loop .inv .1) (rw (c .row-kept .ensures, grower .party-in .ensures)))
+    let l = c .before .before .before .before .before .before .before .before .before .before .loop in
+    (search needs, every-turn _ _ _ _ (l .inv .1) (c .row-kept .ensures))
 
 returns : tie.Need-returns Inv-loop μ-loop
 returns c = every-end _ _ _ _ (omega arith) (c .before .loop .inv .1)
@@ -36,7 +36,12 @@ rows-kept-spec =
     Inv-loop
     μ-loop
     loop-holds
-    (λ c κs. search needs)
+    (λ c. search needs)
+    (λ c. search needs)
+    (λ c. search needs)
+    (λ c. search needs)
+    (λ c. search needs)
+    (λ c. search needs)
     (λ c. search needs)
     (λ c. search needs)
     (λ c. search needs)

@@ -3,18 +3,17 @@
 use Prim.Native.Nat.{ℕ, _-_, _≤_}
 use mathlib.Core.Path.{_≡_, ap, sym, _∙_}
 use native.Mathlib.Omega.{arith}
-use Rattle.certificate.specs.Certified.{worthOf}
-use Rattle.certificate.specs.Rows.{line, hoursShown, leastIn}
+use Rattle.certificate.specs.Rows.{leastIn}
 use Rattle.certificate.proofs.LeastLaws.{least-none, least-turn}
 use borrow.Author.Needs.{needs}
 use Rattle.certificate.proofs.parties.least_earned.Statement.{statement}
 use Rattle.certificate.proofs.parties.least_earned.Tie as tie
 
 abbrev Inv-loop : tie.InvT-loop
-Inv-loop absent tariff earned free share least₀ l₀ least l = (l ≤ 16) × (least ≡ leastIn absent tariff earned free share l)
+Inv-loop partners tariff earned free share least₀ l₀ least l = (l ≤ partners) × (least ≡ leastIn tariff earned free share l)
 
 abbrev μ-loop : tie.MeasureT-loop
-μ-loop absent tariff earned free share least₀ l₀ least l = 16 - l
+μ-loop partners tariff earned free share least₀ l₀ least l = partners - l
 
 loop-holds : tie.Need-loop-holds Inv-loop μ-loop
 loop-holds c = (search needs, sym (least-none _ _ _ _))
@@ -22,21 +21,17 @@ loop-holds c = (search needs, sym (least-none _ _ _ _))
 loop-again : tie.Need-loop-again Inv-loop μ-loop
 loop-again c =
     let free = c .before .before in
-    let tariff = free .before .before in
-    let l = tariff .before .before .before .loop in
-    let a = tariff .before .before .before .before .args in (
+    let l = free .before .before .before .loop in (
       search needs,
       rw (c .lesser2 .ensures, c .before .lesser .ensures)
-          (least-turn (hoursShown (a .t1) (a .t2)) (line (a .t3)) (hoursShown (a .t1) (a .t4)) (line (a .t5)) (l .l) _ _ _ (l .inv .1)
-          (tariff .worth-of .ensures ∙ ap (λ (h : ℕ). worthOf h (line (a .t3) (l .l))) (tariff .before .shown .ensures))
-          (free .worth-of2 .ensures ∙ ap (λ (h : ℕ). worthOf h (line (a .t5) (l .l))) (free .before .shown2 .ensures))),
+          (least-turn _ _ _ _ (l .l) _ _ _ (l .inv .1) (free .before .worth-of .ensures) (free .worth-of2 .ensures)),
     )
 
 returns : tie.Need-returns Inv-loop μ-loop
 returns c =
     let a = c .before .before .args in
-    let e : c .before .loop .l ≡ 16 = omega arith in
-    c .before .loop .inv .1 ∙ ap (λ (k : ℕ). leastIn (a .t1) (a .t2) (a .t3) (a .t4) (a .t5) k) e
+    let e : c .before .loop .l ≡ a .partners = omega arith in
+    c .before .loop .inv .1 ∙ ap (λ (k : ℕ). leastIn (a .t1) (a .t2) (a .t3) (a .t4) k) e
 
 pub least-earned-spec : {M : Type 1} → statement M
 least-earned-spec =
@@ -52,10 +47,6 @@ least-earned-spec =
     (λ c κs. search needs)
     (λ c. search needs)
     (λ c. search needs)
-    (λ c κs. search needs)
-    (λ c. search needs)
-    (λ c. search needs)
-    (λ c κs. search needs)
     (λ c. search needs)
     (λ c. search needs)
     (λ c κs. search needs)

@@ -3,23 +3,25 @@
 use Prim.Native.Nat.{_-_, _≤_}
 use mathlib.Core.Path.{_≡_, sym}
 use native.Mathlib.Omega.{arith}
+use mathlib.Core.List.{[]}
 use lib.Dec.{leb}
+use lib.ListN.{getD}
 use Rattle.grid.proofs.Sixteens.{Made, made-start, made-put}
 use Rattle.certificate.specs.Certified.{every}
-use Rattle.certificate.specs.Rows.{line, usedAt, partyAt}
+use Rattle.certificate.specs.Rows.{line, usedIn, partyAt}
 use Rattle.certificate.proofs.EveryLaws.{every-none, every-turn, every-end}
 use borrow.Author.Needs.{needs}
 use Rattle.certificate.proofs.parties.side.Statement.{statement}
 use Rattle.certificate.proofs.parties.side.Tie as tie
 
 abbrev Inv-loop : tie.InvT-loop
-Inv-loop count absent own standby tariff earned free share fits₀ unused₀ least₀ p₀ fits unused least p =
-    (p ≤ count) × (fits ≡ every (λ k. leb (usedAt absent own standby tariff earned free share k) (line own k)) p) ×
-    Made 0 (λ k v. v ≡ partyAt absent own standby tariff earned free share k .free) p unused ×
-    Made 0 (λ k v. v ≡ partyAt absent own standby tariff earned free share k .least) p least
+Inv-loop count partners own standby tariff earned free share fits₀ unused₀ least₀ p₀ fits unused least p =
+    (p ≤ count) × (fits ≡ every (λ k. leb (usedIn (getD tariff k []) (getD free k []) partners) (line own k)) p) ×
+    Made 0 (λ k v. v ≡ partyAt partners own standby tariff earned free share k .free) p unused ×
+    Made 0 (λ k v. v ≡ partyAt partners own standby tariff earned free share k .least) p least
 
 abbrev μ-loop : tie.MeasureT-loop
-μ-loop count absent own standby tariff earned free share fits₀ unused₀ least₀ p₀ fits unused least p = count - p
+μ-loop count partners own standby tariff earned free share fits₀ unused₀ least₀ p₀ fits unused least p = count - p
 
 loop-holds : tie.Need-loop-holds Inv-loop μ-loop
 loop-holds c = (
