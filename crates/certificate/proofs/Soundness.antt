@@ -79,7 +79,8 @@ module _ (t : Ticket) (x : Settlement) (yes : certified t x ≡ true) where
 
   not-idle : (d : Deal) (i j : ℕ) → i < t .growers → j < t .pilots → ¬ Idle t x d i j
   not-idle Tariff i j hi hj idle =
-      pair i j hi hj .tariffIdle (idle .unfilled) (omega (arith, idle .grower)) (omega (arith, idle .pilot)) (idle .welcome .0) (idle .welcome .1)
+      pair i j hi hj .tariffIdle (idle .unfilled) (omega (arith, idle .grower)) (omega (arith, idle .pilot)) (idle .welcome .0)
+      (idle .welcome .1)
   not-idle Free i j hi hj idle = pair i j hi hj .freeIdle (idle .unfilled) (omega (arith, idle .grower)) (omega (arith, idle .pilot))
       (idle .welcome)
 

@@ -62,7 +62,8 @@ module _ (n m : ℕ) (hn : n ≤ 16) (hm : m ≤ 16) (growerHours pilotHours non
   pilots-fit = ps .fits ∙ every-same _ _ m (λ j hj. ap₂ leb
       (sum-same _ _ n (λ i hi. omega (arith, of-pilot j hj i hi .0, of-pilot j hj i hi .2))) refl)
 
-  row-is : (i : ℕ) → i < n → rowKept (partyOn growers i) (pilots .free) (pilots .standby) (pilots .least) (getD tariffCap i []) (getD tariffGain i []) (getD tariffPay i [])
+  row-is : (i : ℕ) → i < n → rowKept (partyOn growers i) (pilots .free) (pilots .standby) (pilots .least)
+      (getD tariffCap i []) (getD tariffGain i []) (getD tariffPay i [])
       (getD freeCap i []) (getD jointGain i []) (getD tariffHours i []) (getD freeDealHours i []) (getD pay i []) m ≡ every (kept t x i) m
   row-is i hi = every-same _ _ m (λ j hj.
       ap₂ (λ (g p : Party). pairKept g p (at tariffCap i j) (at tariffGain i j) (at tariffPay i j) (at freeCap i j) (at jointGain i j)

@@ -44,7 +44,8 @@ pub fn certified(
     pay: [[u16; 16]; 16],
 ) -> bool
     ensures { λ r. ⌜ r ≡ certified
-        (ticketIn (min 16 growers) (min 16 pilots) «grower_hours» «pilot_hours» «tariff_cap» «tariff_gain» «tariff_pay» «free_cap» «joint_gain»)
+        (ticketIn (min 16 growers) (min 16 pilots) «grower_hours» «pilot_hours» «tariff_cap» «tariff_gain» «tariff_pay» «free_cap»
+        «joint_gain»)
         (settlementIn «tariff_hours» «free_deal_hours» pay) ⌝ }
 {
     let n = numbers::within(growers);

@@ -58,8 +58,8 @@ fn least_earned(
     least
 }
 
-// The first so many parties of one side, with so many partners, by their rows in four squares: hours by the tariff and what one earns, hours of free deals and the
-// share of one.
+// The first so many parties of one side, with so many partners, by their rows in four squares: hours by the tariff and what one earns,
+// hours of free deals and the share of one.
 pub(crate) fn side(
     count: usize,
     partners: usize,

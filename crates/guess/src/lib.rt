@@ -41,10 +41,12 @@ pub fn guess(
     pay: &mut [[u16; 16]; 16],
 ) -> bool
     ensures { λ r. ⌜ r ≡ certified
-        (ticketIn (min 16 growers) (min 16 pilots) «grower_hours» «pilot_hours» «tariff_cap» «tariff_gain» «tariff_pay» «free_cap» «joint_gain»)
+        (ticketIn (min 16 growers) (min 16 pilots) «grower_hours» «pilot_hours» «tariff_cap» «tariff_gain» «tariff_pay» «free_cap»
+        «joint_gain»)
         (settlementIn (now («tariff_hours» .exit)) (now («free_deal_hours» .exit)) (now (pay .exit))) ⌝ }
     ensures { λ r. ⌜ (r ≡ true → Sound
-        (ticketIn (min 16 growers) (min 16 pilots) «grower_hours» «pilot_hours» «tariff_cap» «tariff_gain» «tariff_pay» «free_cap» «joint_gain»)
+        (ticketIn (min 16 growers) (min 16 pilots) «grower_hours» «pilot_hours» «tariff_cap» «tariff_gain» «tariff_pay» «free_cap»
+        «joint_gain»)
         (settlementIn (now («tariff_hours» .exit)) (now («free_deal_hours» .exit)) (now (pay .exit)))) ⌝ }
 {
     let n = numbers::within(growers);

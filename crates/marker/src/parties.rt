@@ -1,11 +1,9 @@
 // Growers and pilots: their own hours, used and free, and their hours and earnings with each partner. What is said of a grower is said of
 // a pilot too, whose rows are those of the squares on their side.
 ghost use mathlib.Core.Path.{_≡_};
-ghost use Prim.Native.Nat.{ℕ, _-_, _<_, _≤_};
+ghost use Prim.Native.Nat.{ℕ, _<_, _≤_};
 ghost use mathlib.Core.List.{[]};
 ghost use lib.ListN.{getD, length};
-ghost use Rattle.grid.specs.Grid.{at};
-ghost use Rattle.grid.specs.Fill.{Filled};
 ghost use Rattle.grid.specs.First.{first};
 ghost use Rattle.market.specs.Tables.{ticketIn, settlementIn};
 ghost use Rattle.marker.specs.Tables.{usedIn, partyOf, partyAt, nobody, isOver, IsGrower, IsPilot};

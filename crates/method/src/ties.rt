@@ -9,7 +9,8 @@ use offers::free_chance;
 // How many eighteenths less than that a free deal may offer and still tie. Three make the fewest jumps of the slowest tickets found.
 const CLOSE: u32 = 3;
 
-// The marked pilots, and every pilot whose free deal offers the grower as much as his least free-deal hour with a marked one, or little less.
+// The marked pilots, and every pilot whose free deal offers the grower as much as his least free-deal hour with a marked one, or
+// little less.
 pub(crate) fn tie_in(
     terms: [Terms; 16],
     agreed: [Agreed; 16],

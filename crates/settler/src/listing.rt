@@ -35,7 +35,8 @@ pub(crate) fn list_settlement(
     pay: &[[u16; 16]; 16],
 )
     requires { ⌜ (length (now list) ≡ 771) × (growers ≤ 16) × (pilots ≤ 16) ⌝ }
-    ensures { λ _. ⌜ (length (now (list .exit)) ≡ 771) × Listed growers pilots (now («tariff_hours» .entry)) (now («free_deal_hours» .entry)) (now (pay .entry)) (now (list .exit)) ⌝ }
+    ensures { λ _. ⌜ (length (now (list .exit)) ≡ 771) × Listed growers pilots (now («tariff_hours» .entry))
+        (now («free_deal_hours» .entry)) (now (pay .entry)) (now (list .exit)) ⌝ }
 {
     write_three(&mut *list, 0, SETTLEMENT, count(growers), count(pilots));
     let pairs = growers * pilots;

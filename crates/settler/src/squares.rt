@@ -21,7 +21,8 @@ pub fn settle_squares(
     pay: &mut [[u16; 16]; 16],
 )
     ensures { λ _. ⌜ Sound
-        (ticketIn (min 16 growers) (min 16 pilots) «grower_hours» «pilot_hours» «tariff_cap» «tariff_gain» «tariff_pay» «free_cap» «joint_gain»)
+        (ticketIn (min 16 growers) (min 16 pilots) «grower_hours» «pilot_hours» «tariff_cap» «tariff_gain» «tariff_pay» «free_cap»
+        «joint_gain»)
         (settlementIn (now («tariff_hours» .exit)) (now («free_deal_hours» .exit)) (now (pay .exit))) ⌝ }
 {
     if guess(

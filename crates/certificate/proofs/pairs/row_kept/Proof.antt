@@ -10,11 +10,14 @@ use Rattle.certificate.proofs.pairs.row_kept.Statement.{statement}
 use Rattle.certificate.proofs.pairs.row_kept.Tie as tie
 
 abbrev Inv-loop : tie.InvT-loop
-Inv-loop grower count free standby least tariff-cap tariff-gain tariff-pay free-cap joint-gain tariff-hours free-deal-hours pay kept₀ j₀ kept j =
-    (j ≤ count) × (kept ≡ rowKept grower free standby least tariff-cap tariff-gain tariff-pay free-cap joint-gain tariff-hours free-deal-hours pay j)
+Inv-loop grower count free standby least tariff-cap tariff-gain tariff-pay free-cap
+    joint-gain tariff-hours free-deal-hours pay kept₀ j₀ kept j =
+    (j ≤ count) × (kept ≡ rowKept grower free standby least tariff-cap tariff-gain tariff-pay free-cap
+    joint-gain tariff-hours free-deal-hours pay j)
 
 abbrev μ-loop : tie.MeasureT-loop
-μ-loop grower count free standby least tariff-cap tariff-gain tariff-pay free-cap joint-gain tariff-hours free-deal-hours pay kept₀ j₀ kept j = count - j
+μ-loop grower count free standby least tariff-cap tariff-gain tariff-pay free-cap
+    joint-gain tariff-hours free-deal-hours pay kept₀ j₀ kept j = count - j
 
 loop-holds : tie.Need-loop-holds Inv-loop μ-loop
 loop-holds c = (search needs, sym (every-none _))

@@ -10,12 +10,14 @@ use Rattle.certificate.proofs.pairs.rows_kept.Statement.{statement}
 use Rattle.certificate.proofs.pairs.rows_kept.Tie as tie
 
 abbrev Inv-loop : tie.InvT-loop
-Inv-loop n m tariff-cap tariff-gain tariff-pay free-cap joint-gain tariff-hours free-deal-hours pay free standby least pilots-free pilots-standby pilots-least kept₀ i₀ kept i =
+Inv-loop n m tariff-cap tariff-gain tariff-pay free-cap
+    joint-gain tariff-hours free-deal-hours pay free standby least pilots-free pilots-standby pilots-least kept₀ i₀ kept i =
     (i ≤ n) × (kept ≡ rowsKept free standby least pilots-free pilots-standby pilots-least m tariff-cap tariff-gain tariff-pay
     free-cap joint-gain tariff-hours free-deal-hours pay i)
 
 abbrev μ-loop : tie.MeasureT-loop
-μ-loop n m tariff-cap tariff-gain tariff-pay free-cap joint-gain tariff-hours free-deal-hours pay free standby least pilots-free pilots-standby pilots-least kept₀ i₀ kept i =
+μ-loop n m tariff-cap tariff-gain tariff-pay free-cap
+    joint-gain tariff-hours free-deal-hours pay free standby least pilots-free pilots-standby pilots-least kept₀ i₀ kept i =
     n - i
 
 loop-holds : tie.Need-loop-holds Inv-loop μ-loop
