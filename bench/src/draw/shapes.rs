@@ -77,7 +77,12 @@ const fn kind(name: &'static str, draw: fn(&mut Generator) -> Ticket) -> Kind {
 
 /// Drawn tickets of each kind, and tickets in which prices go to war.
 pub fn shapes() -> Vec<Shape> {
-    KINDS.iter().map(Kind::shape).chain(wars()).collect()
+    KINDS
+        .iter()
+        .map(Kind::shape)
+        .chain(wars())
+        .chain([slowest()])
+        .collect()
 }
 
 fn wars() -> [Shape; 5] {
@@ -103,6 +108,17 @@ fn wars() -> [Shape; 5] {
             one_hour_short(tariffs_for_pilots),
         ),
     ]
+}
+
+/// The slowest ticket that the program `slow` has found.
+fn slowest() -> Shape {
+    let numbers: Vec<u16> = include_str!("../../slowest.list")
+        .lines()
+        .filter(|line| !line.starts_with('#'))
+        .flat_map(str::split_whitespace)
+        .map(|word| word.parse().expect("the list has numbers only"))
+        .collect();
+    one("the slowest ticket found", Ticket::from_numbers(&numbers))
 }
 
 fn one(name: &'static str, ticket: Ticket) -> Shape {

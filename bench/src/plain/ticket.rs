@@ -57,7 +57,7 @@ impl Ticket {
     }
 
     /// The ticket of numbers that have passed their checks.
-    pub(super) fn from_numbers(numbers: &[u16]) -> Ticket {
+    pub(crate) fn from_numbers(numbers: &[u16]) -> Ticket {
         let parts = Parts::of(numbers);
         Ticket {
             grower_hours: parts.grower_hours.to_vec(),
