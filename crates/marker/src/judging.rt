@@ -150,9 +150,10 @@ fn judge_squares(
         free_deal_hours,
         pay,
     ) {
-        let count = 2 * numbers::pairs(n, m);
-        let worth = promised_worth(n, m, tariff_cap, free_deal_hours, joint_gain);
-        return Verdict::Sound { count, worth };
+        return Verdict::Sound {
+            count: 2 * numbers::pairs(n, m),
+            worth: promised_worth(n, m, tariff_cap, free_deal_hours, joint_gain),
+        };
     }
     judge_exactly(
         n,
