@@ -3,7 +3,7 @@ use mathlib.Core.Path.{_≡_, refl}
 use mathlib.Core.Bool.{Bool, true, false, cond}
 use Prim.Native.Nat.{ℕ, zero, suc, _^_, _≤_, _<_}
 use native.Mathlib.Omega.{arith}
-use borrow.Author.Tests.{leb-true, eqb-true, lt-ltb, ltb-true}
+use borrow.Author.Tests.{leb-true, eqb-true, lt-ltb, ltb-true, le-leb, eq-eqb}
 use lib.Dec.{leb, ltb, eqb, lit<}
 use Rattle.groups.specs.Groups.{groups}
 use Rattle.checks.specs.declared.ticket.Field.{Field}
@@ -63,6 +63,18 @@ cap-none none x e n = go (leb x 60) (rw n at e)
     go : (t : Bool) → first (must t aboveLimit) (must (eqb x 0) capWithoutHours) ≡ 0 → x ≡ 0
     go true e = eqb-true x 0 (must-holds (eqb x 0) capWithoutHours (lit< tt) e)
     go false e = never cc
+
+-- A number within these ranges has no fault.
+pub amount-clear : (cap x : ℕ) → x ≤ 500 → (cap ≡ 0 → x ≡ 0) → amountFault cap x ≡ 0
+amount-clear cap x h z = rw (le-leb x 500 h) (go (eqb cap 0) refl)
+  where
+    go : (t : Bool) → eqb cap 0 ≡ t → cond t (must (eqb x 0) amountWithoutCap) 0 ≡ 0
+    go true e = rw (eq-eqb x 0 (z (eqb-true cap 0 e)))
+    go false e = refl
+
+pub cap-clear : (none : Bool) (x : ℕ) → x ≤ 60 → (none ≡ true → x ≡ 0) → capFault none x ≡ 0
+cap-clear true x h z = rw (le-leb x 60 h, eq-eqb x 0 (z refl))
+cap-clear false x h z = rw (le-leb x 60 h)
 
 -- The largest number of a field.
 abbrev pub mostOf : Field → ℕ

@@ -42,7 +42,7 @@ pub all-more : (P : ℕ → Type 0) (k : ℕ) (pass b : Bool) → (pass ≡ true
 all-more P k pass b before here e = let t = both-hold pass b e in below-more P k (before (t .0)) (here (t .1))
 
 -- No number of a pair that passes has a fault.
-passes-faultless : (none : Bool) (a b c d e : ℕ) → pairPasses none a b c d e ≡ true → Faultless none a b c d e
+pub passes-faultless : (none : Bool) (a b c d e : ℕ) → pairPasses none a b c d e ≡ true → Faultless none a b c d e
 passes-faultless none a b c d e h =
     let t₄ = both-hold _ (eqb (amountFault d e) 0) h in
     let t₃ = both-hold _ (eqb (capFault none d) 0) (t₄ .0) in

@@ -13,4 +13,5 @@ pub mod Packing
 pub mod Accepting
 pub mod Decoding
 pub mod Facts
+pub mod TicketNumbers
 pub mod Examples

@@ -57,7 +57,7 @@ deal-faultless s q a b c d e xs h g =
     ) at g in
     record { tariffCap = r .0; tariffGain = r .1 .0; tariffPay = r .1 .1 .0; freeCap = r .1 .1 .1 .0; freeGain = r .1 .1 .1 .1 .0 }
 
-faultless-deal : (none : Bool) (a b c d e : ℕ) → Faultless none a b c d e → Deal a b c d e
+pub faultless-deal : (none : Bool) (a b c d e : ℕ) → Faultless none a b c d e → Deal a b c d e
 faultless-deal none a b c d e f = record {
   tariffCapped = cap-range none a (f .tariffCap);
   gainCapped = amount-range a b (f .tariffGain);

@@ -5,7 +5,7 @@
 use mathlib.Core.Path.{_≡_}
 use Prim.Native.Nat.{ℕ, _+_, _*_, _<_, min}
 use mathlib.Core.List.{List}
-use lib.ListN.{getD}
+use lib.ListN.{getD, take}
 use Rattle.grid.specs.Grid.{Grid}
 use Rattle.grid.specs.Fill.{Filled, FilledOver, FilledRow}
 use Rattle.market.specs.Market.{Ticket, Settlement}
@@ -45,12 +45,31 @@ pub record Spreads (q : Quantity) (n m first each : ℕ) : Type 0 where
 abbrev pub quantityOf : Quantity → List ℕ → ℕ → ℕ → ℕ
 quantityOf q list i j = getD list (placeOf q (growersOf list) (pilotsOf list) i j) 0
 
--- everybody's own hours
+-- everybody's own hours, and where they stand among n growers
+abbrev pub growerPlace : ℕ → ℕ
+growerPlace i = 3 + i
+
+abbrev pub pilotPlace : ℕ → ℕ → ℕ
+pilotPlace n j = 3 + n + j
+
 abbrev pub growerHoursOf : List ℕ → ℕ → ℕ
-growerHoursOf list i = getD list (3 + i) 0
+growerHoursOf list i = getD list (growerPlace i) 0
 
 abbrev pub pilotHoursOf : List ℕ → ℕ → ℕ
-pilotHoursOf list j = getD list (3 + growersOf list + j) 0
+pilotHoursOf list j = getD list (pilotPlace (growersOf list) j) 0
+
+-- how many numbers a ticket has, and a settlement; and those numbers, where others follow them
+abbrev pub ticketLength : ℕ → ℕ → ℕ
+ticketLength n m = 3 + n + m + 5 * (n * m)
+
+abbrev pub settlementLength : ℕ → ℕ → ℕ
+settlementLength n m = 3 + 3 * (n * m)
+
+abbrev pub ticketFront : List ℕ → List ℕ
+ticketFront list = take (ticketLength (growersOf list) (pilotsOf list)) list
+
+abbrev pub settlementFront : List ℕ → List ℕ
+settlementFront list = take (settlementLength (growersOf list) (pilotsOf list)) list
 
 -- a free hour is worth nothing
 abbrev pub ticketOf : List ℕ → Ticket
@@ -66,6 +85,23 @@ ticketOf list = record {
   jointGain = quantityOf JointGain list;
   growerStandby = λ i. 0;
   pilotStandby = λ j. 0;
+}
+
+-- The first growers and pilots of a market, at most 16 of each: those for whom squares have room. A ticket that passes its checks has no
+-- others.
+abbrev pub firstSixteen : Ticket → Ticket
+firstSixteen t = record {
+  growers = min 16 (t .growers);
+  pilots = min 16 (t .pilots);
+  growerHours = t .growerHours;
+  pilotHours = t .pilotHours;
+  tariffCap = t .tariffCap;
+  tariffGain = t .tariffGain;
+  tariffPay = t .tariffPay;
+  freeCap = t .freeCap;
+  jointGain = t .jointGain;
+  growerStandby = t .growerStandby;
+  pilotStandby = t .pilotStandby;
 }
 
 abbrev pub settlementOf : List ℕ → Settlement

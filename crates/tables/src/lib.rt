@@ -4,10 +4,15 @@ mod quantities;
 
 pub use quantities::fill;
 pub use quantities::grower_hours;
+pub use quantities::grower_place;
 pub use quantities::growers;
 pub use quantities::pilot_hours;
+pub use quantities::pilot_place;
 pub use quantities::pilots;
+pub use quantities::place;
+pub use quantities::settlement_front;
 pub use quantities::square;
+pub use quantities::ticket_front;
 
 // What a square of growers by pilots holds: five quantities of a ticket, three of a settlement.
 pub enum Quantity {

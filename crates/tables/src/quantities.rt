@@ -3,7 +3,8 @@ ghost use mathlib.Core.Path.{_≡_};
 ghost use Prim.Native.Nat.{_+_, _*_, _<_, min};
 ghost use lib.ListN.{getD};
 ghost use Rattle.grid.specs.Fill.{FilledRow};
-ghost use Rattle.tables.specs.View.{growersOf, pilotsOf, Spreads, growerHoursOf, pilotHoursOf, Holds, HoldsOver};
+ghost use Rattle.tables.specs.View.{growersOf, pilotsOf, placeOf, Spreads, growerHoursOf, pilotHoursOf, Holds, HoldsOver};
+ghost use Rattle.tables.specs.View.{growerPlace, pilotPlace, ticketFront, settlementFront};
 use crate::Quantity;
 
 // Where a quantity stands: that of the first pair at `first`, that of each other pair `each` places after the last.
@@ -54,6 +55,52 @@ pub fn pilots(list: &[u16]) -> usize
     ensures { λ r. ⌜ (r ≡ pilotsOf (now (list .entry))) × (r < 65536) ⌝ }
 {
     numbers::index(numbers::entry(list, 2))
+}
+
+// A product of two numbers of lists.
+fn product(x: usize, y: usize) -> usize
+    requires { ⌜ (x < 65536) × (y < 65536) ⌝ }
+    ensures { λ r. ⌜ (r ≡ x * y) × (r < 4294967296) ⌝ }
+{
+    x * y
+}
+
+// Where a quantity of a pair stands.
+pub fn place(list: &[u16], quantity: Quantity, i: u16, j: u16) -> usize
+    ensures { λ r. ⌜ r ≡ placeOf quantity (growersOf (now (list .entry))) (pilotsOf (now (list .entry))) i j ⌝ }
+{
+    let m = pilots(list);
+    let spread = places(quantity, growers(list), m);
+    let pair = product(numbers::index(i), m) + numbers::index(j);
+    spread.first + spread.each * pair
+}
+
+// Where a grower's hours stand, and a pilot's.
+pub fn grower_place(i: u16) -> usize
+    ensures { λ r. ⌜ r ≡ growerPlace i ⌝ }
+{
+    3 + numbers::index(i)
+}
+
+pub fn pilot_place(list: &[u16], j: u16) -> usize
+    ensures { λ r. ⌜ r ≡ pilotPlace (growersOf (now (list .entry))) j ⌝ }
+{
+    3 + growers(list) + numbers::index(j)
+}
+
+// The numbers of a ticket, where others follow them, and those of a settlement.
+pub fn ticket_front<'a>(list: &'a [u16]) -> &'a [u16]
+    ensures { λ r. ⌜ now r ≡ ticketFront (now (list .entry)) ⌝ }
+{
+    let n = growers(list);
+    let m = pilots(list);
+    numbers::front(list, 3 + n + m + 5 * product(n, m))
+}
+
+pub fn settlement_front<'a>(list: &'a [u16]) -> &'a [u16]
+    ensures { λ r. ⌜ now r ≡ settlementFront (now (list .entry)) ⌝ }
+{
+    numbers::front(list, 3 + 3 * product(growers(list), pilots(list)))
 }
 
 // Writes a quantity of every pair into a lent square, growers by pilots, as far as the square reaches. Its other cells stay as they are.
