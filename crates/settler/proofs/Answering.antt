@@ -14,34 +14,34 @@ use Rattle.reader.specs.Walk.{Numbers}
 use Rattle.reader.specs.Answer.{unpacked, settlementRead, settlementPacked, reply, kept}
 use Rattle.reader.proofs.Facts.{unpacked-shape, settlement-packed-read, reply-with-room, kept-with-room, reply-refused}
 use Rattle.reader.proofs.Telling.{refuses, counts}
-use Rattle.tables.specs.View.{growersOf, pilotsOf}
+use Rattle.tables.specs.View.{growersOf, pilotsOf, settlementFront}
 use Rattle.marker.proofs.Marking.{sound-files-marked}
 use Rattle.settler.specs.Settled.{roomFor, SettledIn, Answers, Settled}
-use Rattle.settler.specs.Numbers.{AnswersNumbers, settlementFront, SoundFront}
+use Rattle.settler.specs.Numbers.{AnswersNumbers, SoundFront}
 
 module _ (xs list lent after : List ℕ) (r : Reply) (f : SoundFront xs list) (room : roomFor xs ≤ length lent)
-    (answered : r ≡ reply (length lent) (settlementPacked (growersOf xs) (pilotsOf xs) (settlementFront xs list)))
-    (left : after ≡ kept lent (settlementPacked (growersOf xs) (pilotsOf xs) (settlementFront xs list))) where
+    (answered : r ≡ reply (length lent) (settlementPacked (growersOf xs) (pilotsOf xs) (settlementFront list)))
+    (left : after ≡ kept lent (settlementPacked (growersOf xs) (pilotsOf xs) (settlementFront list))) where
   fits : length (f .bytes) ≤ length lent
   fits = omega (arith, f .short, room)
 
   front : after ≡ f .bytes ++ drop (length (f .bytes)) lent
   front = left ∙ ap (kept lent) (f .packs) ∙ kept-with-room lent (f .bytes) fits
 
-  read : settlementRead (growersOf xs) (pilotsOf xs) (take (length (f .bytes)) after) ≡ Numbers (settlementFront xs list)
+  read : settlementRead (growersOf xs) (pilotsOf xs) (take (length (f .bytes)) after) ≡ Numbers (settlementFront list)
   read =
       ap (λ (s : List ℕ). settlementRead (growersOf xs) (pilotsOf xs) (take (length (f .bytes)) s)) front
       ∙ ap (settlementRead (growersOf xs) (pilotsOf xs)) (take-at (f .bytes) (drop (length (f .bytes)) lent) (length (f .bytes)) refl)
-      ∙ settlement-packed-read (growersOf xs) (pilotsOf xs) (settlementFront xs list) (f .bytes) (f .packs)
+      ∙ settlement-packed-read (growersOf xs) (pilotsOf xs) (settlementFront list) (f .bytes) (f .packs)
 
   settled-in : (ticket : List ℕ) → unpacked ticket ≡ Numbers xs → SettledIn ticket xs lent after (length (f .bytes))
   settled-in ticket e = record {
     within = fits;
-    numbers = settlementFront xs list;
+    numbers = settlementFront list;
     file = read;
     good = f .good;
     marks = sound-files-marked ticket (take (length (f .bytes)) after)
-        (record { numbers = xs; answer = settlementFront xs list; isTicket = e; isSettlement = read; sound = f .good .sound });
+        (record { numbers = xs; answer = settlementFront list; isTicket = e; isSettlement = read; sound = f .good .sound });
     rest = ap (drop (length (f .bytes))) front ∙ drop-append-seam (f .bytes) (drop (length (f .bytes)) lent);
   }
 
@@ -57,7 +57,7 @@ module _ (xs list lent after : List ℕ) (r : Reply) (f : SoundFront xs list) (r
 
 -- The same of what the code has read and cut: growers, pilots and pairs as numbers of their own, and the front of the list.
 pub written-answers : (xs list own lent after : List ℕ) (r : Reply) (growers pilots pairs : ℕ) → SoundFront xs list →
-    growers ≡ growersOf xs → pilots ≡ pilotsOf xs → pairs ≡ growers * pilots → own ≡ take (3 + 3 * pairs) list →
+    growers ≡ growersOf xs → pilots ≡ pilotsOf xs → pairs ≡ growers * pilots → own ≡ settlementFront list →
     3 + 4 * pairs ≤ length lent → r ≡ reply (length lent) (settlementPacked growers pilots own) →
     after ≡ kept lent (settlementPacked growers pilots own) → AnswersNumbers xs lent after r
 written-answers xs list own lent after r growers pilots pairs f eg ep e cut room answered left =
@@ -67,8 +67,8 @@ written-answers xs list own lent after r growers pilots pairs f eg ep e cut room
     count : pairs ≡ growersOf xs * pilotsOf xs
     count = e ∙ rw (eg, ep)
 
-    same : settlementPacked growers pilots own ≡ settlementPacked (growersOf xs) (pilotsOf xs) (settlementFront xs list)
-    same = rw (eg, ep, cut, count)
+    same : settlementPacked growers pilots own ≡ settlementPacked (growersOf xs) (pilotsOf xs) (settlementFront list)
+    same = rw (eg, ep, cut)
 
 pub room-answers : (xs lent : List ℕ) (growers pilots pairs : ℕ) → growers ≡ growersOf xs → pilots ≡ pilotsOf xs →
     pairs ≡ growers * pilots → length lent < 3 + 4 * pairs → AnswersNumbers xs lent lent (Reply.Refused noRoom)

@@ -3,13 +3,23 @@
 use Prim.Native.Nat.{ℕ, zero, suc, _+_, _*_, _/_, _%_, _≤_, _<_}
 use mathlib.Core.Path.{_≡_, refl, ap, _∙_}
 use mathlib.Core.List.{List}
+use mathlib.Core.Logic.{⊎-elim}
 use native.Mathlib.Omega.{arith}
-use lib.ListN.{getD, set, length, length-set}
+use lib.ListN.{getD, set, length, replicate, length-set, getD-replicate, List·getD-eq-default}
 use lib.Seq.{getD-set-same, getD-set-other}
 use Rattle.grid.specs.Grid.{Grid}
-use Rattle.grid.proofs.Cases.{by-index}
+use Rattle.grid.proofs.Cases.{by-index, lt-or-le}
 use Rattle.grid.proofs.Places.{cell-place, row-within}
-use Rattle.settler.specs.Listing.{nth, Written, numberOf, Listed}
+use Rattle.settler.specs.Listing.{nth, Blank, Written, numberOf, Listed}
+
+pub blank : (l : List ℕ) → l ≡ replicate 771 0 → length l ≡ 771 → Blank l
+blank l e long = record {
+  long = long;
+  zeros = λ p. ⊎-elim
+      (λ h. rw e (getD-replicate 771 p 0 0 h))
+      (λ h. List·getD-eq-default l 0 {n = p} (omega (arith, long)))
+      (lt-or-le p 771);
+}
 
 module _ (l : List ℕ) (p x y z : ℕ) (room : p + 2 < length l) where
   abbrev one : List ℕ
@@ -44,12 +54,14 @@ module _ (n m : ℕ) (tariffHours freeDealHours pay : Grid) where
     pub long : length l ≡ 771
     pub head : (k : ℕ) → k < 3 → getD l k 0 ≡ nth 2 n m k
     pub pairs : (k p : ℕ) → k < 3 → p < c → getD l (3 + 3 * p + k) 0 ≡ numberOf tariffHours freeDealHours pay k (p / m) (p % m)
+    pub rest : (p : ℕ) → 3 + 3 * c ≤ p → getD l p 0 ≡ 0
 
-  pub listed-start : (l l′ : List ℕ) (g p : ℕ) → length l ≡ 771 → g ≡ n → p ≡ m → Written l l′ 0 2 g p → ListedTo 0 l′
-  listed-start l l′ g p len eg ep w = record {
-    long = w .long ∙ len;
+  pub listed-start : (l l′ : List ℕ) (g p : ℕ) → Blank l → g ≡ n → p ≡ m → Written l l′ 0 2 g p → ListedTo 0 l′
+  listed-start l l′ g p blank eg ep w = record {
+    long = w .long ∙ blank .long;
     head = λ k h. ap (λ (q : ℕ). getD l′ q 0) (omega arith) ∙ (rw (eg, ep) at (w .there k h));
     pairs = λ k q hk h. absurd (omega arith);
+    rest = λ q h. w .after q (omega arith) ∙ blank .zeros q;
   }
 
   pub listed-more : (c : ℕ) (l l′ : List ℕ) (x y z : ℕ) →
@@ -62,12 +74,14 @@ module _ (n m : ℕ) (tariffHours freeDealHours pay : Grid) where
         (λ p. k < 3 → p < c + 1 → getD l′ (3 + 3 * p + k) 0 ≡ numberOf tariffHours freeDealHours pay k (p / m) (p % m)) c
         (λ hk _. w .there k hk ∙ e k)
         (λ p ne hk h. w .before (3 + 3 * p + k) (omega arith) ∙ s .pairs k p hk (omega arith));
+    rest = λ p h. w .after p (omega arith) ∙ s .rest p (omega arith);
   }
 
-  pub listed-end : (c : ℕ) (l : List ℕ) → n * m ≤ c → ListedTo c l → Listed n m tariffHours freeDealHours pay l
+  pub listed-end : (c : ℕ) (l : List ℕ) → n * m ≡ c → ListedTo c l → Listed n m tariffHours freeDealHours pay l
   listed-end c l h s = record {
     head = s .head;
     pairs = λ k i j hk hi hj.
         let e = cell-place m i j hj in
         rw (e .0, e .1) at (s .pairs k (i * m + j) hk (omega (arith, row-within i n m hi)));
+    rest = λ p l. s .rest p (omega arith);
   }

@@ -1,3 +1,4 @@
 pub mod Listing
+pub mod SettledList
 pub mod Settled
 pub mod Numbers

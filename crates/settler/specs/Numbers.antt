@@ -1,13 +1,13 @@
 -- What the steps between a ticket's bytes and a settlement's know and leave, of the numbers of both.
 -- Assumes nothing.
-use Prim.Native.Nat.{ℕ, _+_, _*_, _≤_}
+use Prim.Native.Nat.{ℕ, _≤_}
 use mathlib.Core.Path.{_≡_}
 use mathlib.Core.List.{List}
-use lib.ListN.{length, take}
+use lib.ListN.{length}
 use Rattle.reader.specs.declared.Reply.{Reply}
 use Rattle.reader.specs.Walk.{Numbers}
 use Rattle.reader.specs.Answer.{unpacked, settlementPacked}
-use Rattle.tables.specs.View.{growersOf, pilotsOf}
+use Rattle.tables.specs.View.{growersOf, pilotsOf, settlementFront}
 use Rattle.settler.specs.Settled.{SoundNumbers, roomFor, Answers}
 
 -- xs are the numbers of a ticket that passes its checks
@@ -19,13 +19,9 @@ pub record IsTicket (xs : List ℕ) : Type 0 where
 abbrev pub AnswersNumbers : List ℕ → List ℕ → List ℕ → Reply → Type 0
 AnswersNumbers xs lent after r = (ticket : List ℕ) → unpacked ticket ≡ Numbers xs → Answers ticket xs lent after r
 
--- the front of a list, as long as a settlement of the ticket xs
-abbrev pub settlementFront : List ℕ → List ℕ → List ℕ
-settlementFront xs list = take (3 + 3 * (growersOf xs * pilotsOf xs)) list
-
 -- The front is a sound settlement of the ticket, and its file fits the room that is asked for.
 pub record SoundFront (xs list : List ℕ) : Type 0 where
-  pub good : SoundNumbers xs (settlementFront xs list)
+  pub good : SoundNumbers xs (settlementFront list)
   pub bytes : List ℕ
-  pub packs : settlementPacked (growersOf xs) (pilotsOf xs) (settlementFront xs list) ≡ Numbers bytes
+  pub packs : settlementPacked (growersOf xs) (pilotsOf xs) (settlementFront list) ≡ Numbers bytes
   pub short : length bytes ≤ roomFor xs

@@ -2,23 +2,22 @@
 mod listing;
 mod squares;
 
-ghost use mathlib.Core.Path.{_≡_};
-ghost use lib.ListN.{length};
 ghost use Rattle.settler.specs.Settled.{Settled};
-ghost use Rattle.settler.specs.Numbers.{IsTicket, AnswersNumbers, SoundFront};
+ghost use Rattle.settler.specs.SettledList.{SettledList};
+ghost use Rattle.settler.specs.Numbers.{IsTicket, AnswersNumbers};
 use listing::list_settlement;
 use reader::NO_ROOM;
 use reader::Reply;
 pub use squares::settle_squares;
 use tables::Quantity;
 
-// Lists the numbers of a sound settlement of a ticket. Its squares are filled where they stand: a square that is returned is copied.
-fn list_sound(ticket: &[u16], list: &mut [u16; 771])
-    requires { ⌜ IsTicket (now ticket) × (length (now list) ≡ 771) ⌝ }
-    ensures { λ _. ⌜ (length (now (list .exit)) ≡ 771) × SoundFront (now (ticket .entry)) (now (list .exit)) ⌝ }
+// The numbers of a sound settlement of the market that a ticket's numbers mean, whatever they are; of at most 16 growers and 16 pilots.
+// Its squares are filled where they stand: a square that is returned is copied.
+pub fn settle_list(ticket: &[u16]) -> [u16; 771]
+    ensures { λ r. ⌜ SettledList (now (ticket .entry)) r ⌝ }
 {
-    let growers = tables::growers(ticket);
-    let pilots = tables::pilots(ticket);
+    let growers = numbers::within(tables::growers(ticket));
+    let pilots = numbers::within(tables::pilots(ticket));
     let grower_hours = tables::grower_hours(ticket);
     let pilot_hours = tables::pilot_hours(ticket);
     let mut tariff_cap = grid::zeros();
@@ -48,7 +47,16 @@ fn list_sound(ticket: &[u16], list: &mut [u16; 771])
         &mut free_deal_hours,
         &mut pay,
     );
-    list_settlement(list, growers, pilots, &tariff_hours, &free_deal_hours, &pay);
+    let mut list = numbers::settlement_list();
+    list_settlement(
+        &mut list,
+        growers,
+        pilots,
+        &tariff_hours,
+        &free_deal_hours,
+        &pay,
+    );
+    list
 }
 
 // Settles a ticket's numbers into a lent buffer, which must have room for the longest settlement that the ticket could have.
@@ -62,14 +70,8 @@ fn settle_numbers(ticket: &[u16], settlement: &mut [u8]) -> Reply
     if settlement.len() < 3 + 4 * pairs {
         return Reply::Refused { why: NO_ROOM };
     }
-    let mut list = numbers::settlement_list();
-    list_sound(ticket, &mut list);
-    reader::write_settlement(
-        numbers::front(&list, 3 + 3 * pairs),
-        growers,
-        pilots,
-        settlement,
-    )
+    let list = settle_list(ticket);
+    reader::write_settlement(tables::settlement_front(&list), growers, pilots, settlement)
 }
 
 // Writes a sound settlement of a ticket at the front of a lent buffer, and returns its length in bytes.

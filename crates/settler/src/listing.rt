@@ -2,7 +2,7 @@
 ghost use mathlib.Core.Path.{_≡_};
 ghost use Prim.Native.Nat.{_+_, _<_, _≤_};
 ghost use lib.ListN.{length};
-ghost use Rattle.settler.specs.Listing.{Written, Listed};
+ghost use Rattle.settler.specs.Listing.{Blank, Written, Listed};
 
 // The kind of a file that is a settlement.
 const SETTLEMENT: u16 = 2;
@@ -34,7 +34,7 @@ pub(crate) fn list_settlement(
     free_deal_hours: &[[u16; 16]; 16],
     pay: &[[u16; 16]; 16],
 )
-    requires { ⌜ (length (now list) ≡ 771) × (growers ≤ 16) × (pilots ≤ 16) ⌝ }
+    requires { ⌜ Blank (now list) × (growers ≤ 16) × (pilots ≤ 16) ⌝ }
     ensures { λ _. ⌜ (length (now (list .exit)) ≡ 771) × Listed growers pilots (now («tariff_hours» .entry))
         (now («free_deal_hours» .entry)) (now (pay .entry)) (now (list .exit)) ⌝ }
 {

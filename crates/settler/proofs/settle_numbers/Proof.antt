@@ -4,6 +4,7 @@ use mathlib.Core.Path.{_≡_, sym}
 use Prim.Native.Nat.{_*_}
 use native.Mathlib.Omega.{arith}
 use Rattle.marker.proofs.TicketLimits.{limits}
+use Rattle.settler.proofs.SettlementNumbers.{sound-front}
 use Rattle.settler.proofs.Answering.{room-answers, written-answers}
 use borrow.Author.Needs.{needs}
 use Rattle.settler.proofs.settle_numbers.Statement.{statement}
@@ -22,20 +23,19 @@ returns c =
     let q = c .before in
     room-answers _ _ _ _ _ (q .before .before .growers .ensures .0) (q .before .pilots .ensures .0) (all q) (c .if1 .taken)
 
-list-sound-requires : tie.Need-list-sound-requires
-list-sound-requires c κs = (c .before .before .before .before .before .before .before .before .pre, c .before .settlement-list .ensures .1)
-
-slice-aggregate-front : tie.Need-slice-aggregate-front
-slice-aggregate-front c = sym (c .before .list-sound .ensures .0)
+slice-aggregate-settlement-front : tie.Need-slice-aggregate-settlement-front
+slice-aggregate-settlement-front c = sym (c .before .settle-list .ensures .long)
 
 returns-2 : tie.Need-returns-2
 returns-2 c =
-    let q = c .before .before .before .before .before .before .before .before .before .before in
-    let l = c .before .before .before .before .before .before .list-sound in
+    let l = c .before .before .before .before .before .before .settle-list in
+    let room = c .before .before .before .before .before .before .before in
+    let q = room .before in
     let w = c .before .before .write-settlement in
-    written-answers _ _ _ _ _ _ _ _ _ (l .ensures .1) (q .before .before .growers .ensures .0) (q .before .pilots .ensures .0) (all q)
-    (c .before .before .before .before .front .ensures)
-    (c .before .before .before .before .before .before .before .before .before .if1 .left) (w .ensures .0 .reply) (w .ensures .1)
+    let xs = q .before .before .before .before .before .args .ticket .now in
+    written-answers xs _ _ _ _ _ _ _ _ (sound-front xs _ (q .before .before .before .before .before .pre) (l .ensures))
+    (q .before .before .growers .ensures .0) (q .before .pilots .ensures .0) (all q)
+    (c .before .before .before .before .settlement-front .ensures) (room .if1 .left) (w .ensures .0 .reply) (w .ensures .1)
 
 pub settle-numbers-spec : {M : Type 1} → statement M
 settle-numbers-spec =
@@ -48,10 +48,7 @@ settle-numbers-spec =
     (λ c. search needs)
     returns
     (λ c κs. search needs)
-    list-sound-requires
-    slice-aggregate-front
-    (λ c. search needs)
-    (λ c. search needs)
+    slice-aggregate-settlement-front
     (λ c κs. search needs)
     (λ c κs. search needs)
     (λ c. search needs)

@@ -27,7 +27,7 @@ turn c =
     (omega arith, omega (arith, w .grower, s .pre .1), omega (arith, w .pilot, s .pre .2), omega (arith, c .loop-test .taken))
 
 write-three-requires : tie.Need-write-three-requires Inv-loop μ-loop
-write-three-requires c κs = (c .before .before .before .pre .0, omega arith)
+write-three-requires c κs = (c .before .before .before .pre .0 .long, omega arith)
 
 mul-pairs : tie.Need-mul-pairs Inv-loop μ-loop
 mul-pairs c =
@@ -106,7 +106,7 @@ loop-again c = (
 )
 
 returns : tie.Need-returns Inv-loop μ-loop
-returns c = (c .before .loop .inv .1 .long, listed-end _ _ _ _ _ _ _ (c .loop-test .left) (c .before .loop .inv .1))
+returns c = (c .before .loop .inv .1 .long, listed-end _ _ _ _ _ _ _ (omega (arith, c .loop-test .left, c .before .loop .inv .0)) (c .before .loop .inv .1))
 
 pub list-settlement-spec : {M : Type 1} → statement M
 list-settlement-spec =
