@@ -26,22 +26,24 @@ fn is_replaceable(name: &[u8]) -> bool {
 }
 
 // Writes a new file beside the one that is named, and gives it the name once it is whole: an older file of that name stays, or is
-// replaced by a whole one.
-fn replace(name: &[u8], beside: &[u8], bytes: &[u8]) {
+// replaced by a whole one. Answers whether it was.
+fn replace(name: &[u8], beside: &[u8], bytes: &[u8]) -> bool {
     let fd = os::create(beside);
     if fd < 0 {
         os::fail(beside);
-        return;
+        return false;
     }
     if !store(fd, bytes) {
         os::fail(beside);
         os::unlink(beside);
-        return;
+        return false;
     }
     if os::rename(beside, name) < 0 {
         os::fail(name);
         os::unlink(beside);
+        return false;
     }
+    true
 }
 
 fn put(name: &mut [u8; 4096], at: usize, byte: u8) {
@@ -50,10 +52,19 @@ fn put(name: &mut [u8; 4096], at: usize, byte: u8) {
     }
 }
 
-// A name with `.new` after its first bytes. Where that is too long for a path it is left out, and the zeros after the name then make
-// the system refuse it.
-fn new_name(name: [u8; 4096], length: usize) -> [u8; 4096] {
-    let mut beside = name;
+// The first 4096 bytes of a name, with zeros after them.
+fn copied(name: &[u8]) -> [u8; 4096] {
+    let mut copy = io::buffer();
+    for k in 0..name.len() {
+        put(&mut copy, k, name[k]);
+    }
+    copy
+}
+
+// A name with `.new` after it. Where that is too long for a path it is left out.
+fn new_name(name: &[u8]) -> [u8; 4096] {
+    let mut beside = copied(name);
+    let length = name.len();
     if length < 4092 {
         put(&mut beside, length, b'.');
         put(&mut beside, length + 1, b'n');
@@ -61,6 +72,21 @@ fn new_name(name: [u8; 4096], length: usize) -> [u8; 4096] {
         put(&mut beside, length + 3, b'w');
     }
     beside
+}
+
+// How long that name is. Where `.new` was left out it is all 4096 bytes, which the system refuses as too long.
+fn new_length(length: usize) -> usize {
+    if length < 4092 { length + 4 } else { 4096 }
+}
+
+// Writes the file of a name, and answers whether it did.
+pub fn write_named(name: &[u8], bytes: &[u8]) -> bool {
+    if !is_replaceable(name) {
+        os::fail(name);
+        return false;
+    }
+    let beside = new_name(name);
+    replace(name, bytes::front(&beside, new_length(name.len())), bytes)
 }
 
 // Writes the file that an argument names.
@@ -71,10 +97,5 @@ pub fn write(argument: usize, bytes: &[u8]) {
         os::fail(b"name");
         return;
     }
-    if !is_replaceable(&name[..length]) {
-        os::fail(&name[..length]);
-        return;
-    }
-    let beside = new_name(name, length);
-    replace(&name[..length], bytes::front(&beside, length + 4), bytes);
+    write_named(&name[..length], bytes);
 }
