@@ -1,37 +1,22 @@
 // The commands. The first file of a command is read here, and what it writes is named by its last argument.
 use crate::account;
-use crate::layout;
 use crate::room;
 use crate::usage::Asked;
 use crate::usage::Operation;
 use crate::usage::number_of;
 use files::Got;
 use files::counted;
-use files::end_line;
 use files::say;
 use libc::STDERR_FILENO;
 use libc::STDOUT_FILENO;
 use lists::Listed;
+use printing::refused;
 use reader::Reply;
 use verdicts::Verdict;
 
-fn refused(why: u8) {
-    counted(STDOUT_FILENO, b"REFUSED ", why as u64);
-    end_line(STDOUT_FILENO);
-    words::refusal(STDERR_FILENO, why);
-}
-
-fn print_sheet(ticket: &[u8]) {
-    let mut text = room::page();
-    let reply = sheets::sheet(ticket, &mut text);
-    if let Reply::Done { count } = reply {
-        say(STDOUT_FILENO, bytes::front(&text, count));
-    }
-}
-
 // A ticket settled, to a file.
 fn settle(ticket: &[u8]) {
-    let mut settlement = room::settlement_bytes();
+    let mut settlement = files::settlement_bytes();
     let reply = settler::settle(ticket, &mut settlement);
     match reply {
         Reply::Refused { why } => refused(why),
@@ -58,7 +43,7 @@ fn mark_files(ticket: &[u8], settlement: &[u8]) {
     let verdict = marker::mark(ticket, settlement);
     words::explain(ticket, settlement, verdict);
     if is_ticket(verdict) {
-        print_sheet(ticket);
+        printing::sheet(ticket);
     }
 }
 
@@ -77,7 +62,7 @@ fn account_files(ticket: &[u8], settlement: &[u8]) {
 
 // An operation on a ticket and on the settlement that is its second file.
 fn with_settlement(ticket: &[u8], accounted: bool) {
-    let mut settlement = room::settlement_bytes();
+    let mut settlement = files::settlement_bytes();
     let got = files::read(3, &mut settlement);
     if let Got::Bytes { count } = got {
         if accounted {
@@ -94,13 +79,13 @@ fn unpack(ticket: &[u8]) {
     let reply = reader::unpack(ticket, &mut numbers);
     match reply {
         Reply::Refused { why } => refused(why),
-        Reply::Done { count } => layout::ticket(numbers::front(&numbers, count)),
+        Reply::Done { count } => printing::ticket(numbers::front(&numbers, count)),
     }
 }
 
 fn run(operation: Operation, ticket: &[u8]) {
     match operation {
-        Operation::Sheet => print_sheet(ticket),
+        Operation::Sheet => printing::sheet(ticket),
         Operation::Settle => settle(ticket),
         Operation::Mark => with_settlement(ticket, false),
         Operation::Account => with_settlement(ticket, true),
@@ -110,7 +95,7 @@ fn run(operation: Operation, ticket: &[u8]) {
 
 // An operation on the ticket that is its first file.
 pub(crate) fn on_ticket(operation: Operation) {
-    let mut ticket = room::ticket_bytes();
+    let mut ticket = files::ticket_bytes();
     let got = files::read(2, &mut ticket);
     if let Got::Bytes { count } = got {
         run(operation, bytes::front(&ticket, count));
@@ -119,7 +104,7 @@ pub(crate) fn on_ticket(operation: Operation) {
 
 // A list of numbers as a ticket, to the file that an argument names.
 fn pack_numbers(numbers: &[u16], argument: usize) {
-    let mut ticket = room::ticket_bytes();
+    let mut ticket = files::ticket_bytes();
     let reply = reader::pack(numbers, &mut ticket);
     match reply {
         Reply::Refused { why } => refused(why),

@@ -2,7 +2,6 @@
 // libraries beneath. The program itself is proved safe.
 mod account;
 mod commands;
-mod layout;
 mod room;
 mod usage;
 

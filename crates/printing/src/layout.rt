@@ -54,7 +54,7 @@ fn pairs(
     }
 }
 
-pub(crate) fn ticket(numbers: &[u16]) {
+pub fn ticket(numbers: &[u16]) {
     let growers = tables::growers(numbers);
     let pilots = tables::pilots(numbers);
     counted(STDOUT_FILENO, b"growers ", growers as u64);

@@ -1,9 +1,9 @@
--- `exchange::layout::pairs` is safe and ends: each loop counts up to its end.
+-- `printing::layout::pairs` is safe and ends: each loop counts up to its end.
 -- Assumes nothing.
 use Prim.Native.Nat.{_≤_, _-_}
 use borrow.Author.Needs.{needs}
-use Rattle.exchange.proofs.layout.pairs.Statement.{statement}
-use Rattle.exchange.proofs.layout.pairs.Tie as tie
+use Rattle.printing.proofs.layout.pairs.Statement.{statement}
+use Rattle.printing.proofs.layout.pairs.Tie as tie
 
 abbrev Inv-loop2 : tie.InvT-loop2
 Inv-loop2 growers pilots tariff-cap gain pay free-cap joint-gain i j₀ j = j ≤ pilots

@@ -1,9 +1,9 @@
--- `exchange::layout::parties` is safe and ends: every party is one of 16.
+-- `printing::layout::parties` is safe and ends: every party is one of 16.
 -- Assumes nothing.
 use Prim.Native.Nat.{_≤_, _-_}
 use borrow.Author.Needs.{needs}
-use Rattle.exchange.proofs.layout.parties.Statement.{statement}
-use Rattle.exchange.proofs.layout.parties.Tie as tie
+use Rattle.printing.proofs.layout.parties.Statement.{statement}
+use Rattle.printing.proofs.layout.parties.Tie as tie
 
 abbrev Inv-loop : tie.InvT-loop
 Inv-loop word count hours k₀ k = k ≤ 16
