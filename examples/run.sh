@@ -1,7 +1,8 @@
 #!/usr/bin/env bash
-# Builds mark.c, and a shared object for mark.py, over the proved archive, and runs both on the example files.
+# Builds mark.c and market.c, and a shared object for mark.py, over the proved archive, and runs them on the example files.
 # Each says what it must: the verdict, and of a sound settlement its worth, if there is no tariff deal, and the account. So does
-# the program exchange, in its own words. The exit status is 1 if any does not, or if something cannot be built.
+# the program exchange, in its own words; and what its desk saves is what it holds, and sound. The exit status is 1 if any does not,
+# or if something cannot be built.
 set -eu
 root=$(cd "$(dirname "$0")/.." && pwd)
 examples=$root/examples
@@ -19,6 +20,7 @@ if [ ! -x "$program" ]; then
 fi
 mkdir -p "$out"
 gcc -std=c11 -O2 -Wall -Wextra -pedantic -Werror -I"$root/include" "$examples/mark.c" "$archive" -o "$out/mark" || exit 1
+gcc -std=c11 -O2 -Wall -Wextra -pedantic -Werror -I"$root/include" "$examples/market.c" "$archive" -o "$out/market" || exit 1
 gcc -shared -Wl,--whole-archive "$archive" -Wl,--no-whole-archive -o "$out/libexchange_c.so" || exit 1
 
 passed=0
@@ -62,6 +64,24 @@ expect_program() {
     compare "exchange mark $name" "$(printf '%s\n' "$@")" marked "$ticket" "$settlement"
 }
 
+# What the desk answers to the lines that are given, over a ticket; reasons are on standard error.
+desk() {
+    local ticket=$1
+    shift
+    printf '%s\n' "$@" | "$program" desk "$ticket" 2>/dev/null
+}
+
+# What the desk answers to a line, before another is written: it must not wait for more.
+answer_at_once() {
+    local answer
+    coproc DESK { "$program" desk "$1" 2>/dev/null; }
+    printf '%s\n' "$2" >&"${DESK[1]}"
+    read -r -t 10 answer <&"${DESK[0]}"
+    printf '%s\n' "$answer"
+    exec {DESK[1]}>&-
+    wait
+}
+
 expect small small-no_hours "not sound, verdict 7: the tariff deal of grower 0 and pilot 0 is idle"
 expect two_pilots two_pilots-sound "sound: 4 deals looked at" \
     "worth 10 euros: no settlement of this ticket is worth more" \
@@ -96,6 +116,25 @@ expect_program two_pilots two_pilots-pay_above_3 "MARK 8 0 1 free 4" \
     "an hour more earns them 7 together" \
     "grower 0 gives up an hour with pilot 0, free deal, worth 6" \
     "pilot 1 gives up a free hour, worth 0"
+
+saved=$out/desk.ticket
+settlement=$out/desk.settlement
+rm -f "$saved" "$settlement"
+compare "exchange desk: save" "$(printf '%s\n' OK "REFUSED 19" "REFUSED 20" "?" OK)" \
+    desk "$examples/two_pilots.ticket" "pair 0 1 0 0 0 1 12" "pilot 2 hours 1" "grower 0 hours 61" "save $saved" \
+    "save $saved $settlement"
+compare "exchange desk: the saved ticket" "$("$program" unpack "$examples/two_pilots.ticket" | sed '$s/gain 7$/gain 12/')" \
+    "$program" unpack "$saved"
+compare "exchange desk: the saved settlement" "$(printf '%s\n' "MARK 1 0 0 tariff 4" "sound: no deal is idle or blocks" \
+    "worth 12: no settlement of this ticket is worth more")" marked "$saved" "$settlement"
+compare "exchange desk: save to no folder" FAILED desk "$examples/two_pilots.ticket" "save $out/none/a $out/none/b"
+compare "exchange desk: a refused ticket" "REFUSED 18" desk "$examples/week_pilot_off.ticket" sheet
+compare "exchange desk: an answer before the next line" "REFUSED 19" answer_at_once "$examples/two_pilots.ticket" "grower 1 hours 1"
+
+compare "market.c week" "$(printf '%s\n' "opened: refusal 0, verdict 1, count 18" "pilot 1 is off: refusal 0, verdict 1, count 18" \
+    "a cap with pilot 1: refusal 20, verdict 1, count 18" "grower 16: refusal 19, verdict 1, count 18" \
+    "new terms: refusal 0, verdict 1, count 18")" "$out/market" "$examples/week.ticket"
+compare "market.c week_pilot_off" "refused with 18" "$out/market" "$examples/week_pilot_off.ticket"
 
 echo "examples: $passed passed, $failed failed"
 [ "$failed" -eq 0 ]

@@ -1,5 +1,6 @@
 /*
- * The hours exchange for C and C++: tickets, settlements, worths, accounts and sheets.
+ * The hours exchange for C and C++: tickets, settlements, worths, accounts, sheets
+ * and markets that are held open.
  *
  * The functions stand in the archive that `rt staticlib exchange_c` proves and
  * writes, target/staticlib/libexchange_c.a:
@@ -24,8 +25,8 @@
  *   - a buffer that is written overlaps no other argument
  *   - a pointer with length 0 is never followed, and may be null
  *
- * A refusal changes no element. After a success the elements beyond those that
- * were written are as before.
+ * A refusal changes no element, but for exchange_call, which see. After a success
+ * the elements beyond those that were written are as before.
  *
  * Threads, memory, stack
  *
@@ -50,11 +51,14 @@ extern "C" {
 #define EXCHANGE_SETTLEMENT_BYTES 1027 /* of exchange_settle's settlement */
 #define EXCHANGE_SHEET_BYTES 8216      /* of exchange_sheet's text */
 #define EXCHANGE_ACCOUNT_NUMBERS 48    /* of exchange_account's list */
+#define EXCHANGE_MARKET_NUMBERS 2086   /* of exchange_open's market: no fewer do */
+#define EXCHANGE_CALL_NUMBERS 8        /* of each of exchange_call's calls */
 
 /*
  * Replies: the number that exchange_unpack, exchange_pack, exchange_settle,
- * exchange_sheet and exchange_account return. Below EXCHANGE_REFUSED it is how many elements were
- * written; otherwise it is EXCHANGE_REFUSED and the refusal's number.
+ * exchange_sheet, exchange_account, exchange_open, exchange_call and
+ * exchange_market_settlement return. Below EXCHANGE_REFUSED it is how many elements
+ * were written; otherwise it is EXCHANGE_REFUSED and the refusal's number.
  */
 #define EXCHANGE_REFUSED UINT32_C(65536)
 
@@ -179,6 +183,81 @@ static inline uint32_t exchange_worth_refusal(uint64_t worth)
 {
     return (uint32_t)(worth >> 56);
 }
+
+/*
+ * A market that is held open: a ticket and a sound settlement of it, as the caller's
+ * list of EXCHANGE_MARKET_NUMBERS numbers. First stands the ticket's list, as
+ * exchange_unpack writes it, with zeros up to EXCHANGE_TICKET_NUMBERS; then the
+ * settlement's, in its file's order, with zeros after it. Copy the list to keep a
+ * market; write to it only by exchange_open and exchange_call.
+ */
+
+/*
+ * Opens a market from a ticket. Returns EXCHANGE_MARKET_NUMBERS. Refusals 1 to 9 and
+ * 18 are about the ticket; 10, last, says that the list is shorter than a market.
+ */
+uint32_t exchange_open(const uint8_t *ticket, size_t ticket_length,
+                       uint16_t *market, size_t market_length);
+
+/*
+ * Does calls on a market, one after another, of EXCHANGE_CALL_NUMBERS numbers each:
+ *
+ *   1 GROWER HOURS 0 0 0 0 0       sets a grower's hours
+ *   2 PILOT HOURS 0 0 0 0 0        sets a pilot's hours
+ *   3 GROWER PILOT TC A B FC C     sets the five numbers of a pair, as in the ticket
+ *
+ * What stands after HOURS is not looked at. Hours of 0 set the numbers of all the
+ * party's pairs to 0, too. After each call the settlement is sound for the ticket as
+ * the accepted calls left it. A call that is refused changes nothing; the calls after
+ * it are done. Returns EXCHANGE_MARKET_NUMBERS if all were accepted, else the first
+ * refusal: 19 says that there is no such party, 20 that a number breaks the ticket's
+ * limits, or that this is no call: another first number, or fewer than 8 numbers at
+ * the list's end. 10, before all else, says that the market's list is too short, and
+ * nothing is done.
+ */
+uint32_t exchange_call(uint16_t *market, size_t market_length,
+                       const uint16_t *calls, size_t calls_length);
+
+/* One call. If it is refused, the market is as it was. */
+static inline uint32_t exchange_set_grower_hours(uint16_t *market, size_t market_length,
+                                                 uint16_t grower, uint16_t hours)
+{
+    const uint16_t call[EXCHANGE_CALL_NUMBERS] = {1, grower, hours, 0, 0, 0, 0, 0};
+    return exchange_call(market, market_length, call, EXCHANGE_CALL_NUMBERS);
+}
+
+static inline uint32_t exchange_set_pilot_hours(uint16_t *market, size_t market_length,
+                                                uint16_t pilot, uint16_t hours)
+{
+    const uint16_t call[EXCHANGE_CALL_NUMBERS] = {2, pilot, hours, 0, 0, 0, 0, 0};
+    return exchange_call(market, market_length, call, EXCHANGE_CALL_NUMBERS);
+}
+
+static inline uint32_t exchange_set_pair(uint16_t *market, size_t market_length,
+                                         uint16_t grower, uint16_t pilot,
+                                         uint16_t tariff_cap, uint16_t a, uint16_t b,
+                                         uint16_t free_cap, uint16_t c)
+{
+    const uint16_t call[EXCHANGE_CALL_NUMBERS] = {3, grower, pilot, tariff_cap, a, b, free_cap, c};
+    return exchange_call(market, market_length, call, EXCHANGE_CALL_NUMBERS);
+}
+
+/*
+ * How many of a market's numbers are the ticket's: so many, from the first on, are
+ * exchange_pack's list.
+ */
+static inline size_t exchange_market_ticket_numbers(const uint16_t *market)
+{
+    return 3 + (size_t)market[1] + market[2] + 5 * (size_t)market[1] * market[2];
+}
+
+/*
+ * Writes the file of the settlement that a market holds. Returns its length in bytes.
+ * Refusal 10 says that the market's list or the buffer is too short; a list that
+ * exchange_open and exchange_call wrote has no other.
+ */
+uint32_t exchange_market_settlement(const uint16_t *market, size_t market_length,
+                                    uint8_t *settlement, size_t settlement_length);
 
 #ifdef __cplusplus
 }

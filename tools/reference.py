@@ -1,4 +1,4 @@
-"""What the program `cases` must print, worked out apart from it.
+"""What the programs `cases` and `exchange desk` must print, worked out apart from them.
 
     python3 tools/reference.py crates/cases/stdin PROGRAM_OUTPUT > expected
 
@@ -7,12 +7,19 @@ with every spare listed one by one. For `settle` and for the `sheet` of a ticket
 program's own answer is taken from PROGRAM_OUTPUT, judged, and written through only if it is a sound settlement, or the sheet of
 one. Otherwise a line says what is wrong. So the program is right if `expected` is the same as PROGRAM_OUTPUT.
 
+    python3 tools/reference.py desk TICKET LINES PROGRAM_OUTPUT > expected
+
+does the same for a desk: TICKET is the file that it was opened with, LINES is its standard input. Which settlement is held is left to the
+program: of a `sheet` it is judged that it shows a sound settlement of the ticket as the accepted calls left it, and the same one as before
+if no call was accepted since. `save` may say OK or FAILED, and `help` is a line for each kind of line; both are written through.
+
 The head of crates/cases/stdin says how the cases are written. Python 3, without packages.
 """
 import fractions
 import functools
 import itertools
 import math
+import re
 import sys
 
 TARIFF, FREE = "tariff", "free"
@@ -20,6 +27,8 @@ ROOM = 8300  # the longest buffer that the program can lend
 LONGEST = 2200  # the longest document that it can read
 SHOWN = 160  # so much of a line is printed again
 DIGITS = 20  # as many as a number of 64 bits can have
+LONGEST_LINE = 4096  # the most bytes of a desk's line
+GROWER, PILOT = 0, 1
 
 
 class Refused(Exception):
@@ -286,6 +295,46 @@ def worth(ticket_data, settlement_data):
     return settlement.verdict()[0], settlement.total()
 
 
+# The open market
+
+
+class OpenMarket:
+    """A ticket and the calls that change it. Each raises a refusal, or returns once the ticket is changed."""
+
+    def __init__(self, data):
+        self.ticket = Ticket(unpack(data))
+
+    def hours(self, party):
+        return (self.ticket.grower_hours, self.ticket.pilot_hours)[party]
+
+    def find(self, party, who):
+        if who >= len(self.hours(party)):
+            raise Refused(19)
+
+    def set_hours(self, party, who, hours):
+        self.find(party, who)
+        if hours > 60:
+            raise Refused(20)
+        self.hours(party)[who] = hours
+        if hours == 0:
+            for pair in self.ticket.pairs:
+                if pair[party] == who:
+                    self.ticket.terms[pair] = [0] * 5
+
+    def set_pair(self, grower, pilot, *terms):
+        self.find(GROWER, grower)
+        self.find(PILOT, pilot)
+        tariff_cap, a, b, free_cap, c = terms
+        for cap, amounts in (tariff_cap, (a, b)), (free_cap, (c,)):
+            if cap > 60 or any(amount > 500 for amount in amounts):
+                raise Refused(20)
+            if cap == 0 and any(amounts):
+                raise Refused(20)
+            if cap > 0 and 0 in (self.hours(GROWER)[grower], self.hours(PILOT)[pilot]):
+                raise Refused(20)
+        self.ticket.terms[grower, pilot] = list(terms)
+
+
 # The lines of the cases
 
 
@@ -366,8 +415,11 @@ def account_line(work):
         return "  refused %d\n" % refusal.why
 
 
+WRONG = "  WRONG: "
+
+
 def wrong(what):
-    return "  WRONG: %s\n" % what
+    return WRONG + what + "\n"
 
 
 def settled(data, room, answer):
@@ -402,6 +454,18 @@ def shown_settlement(ticket, text):
     return Settlement(ticket, [2, ticket.n, ticket.m, *itertools.chain(*rows.values())])
 
 
+def sound_sheet(ticket, text):
+    """The sheet of the settlement that a text shows, if it is a sound one of this ticket."""
+    try:
+        settlement = shown_settlement(ticket, text)
+    except (ValueError, KeyError):
+        return wrong("not laid out as a sheet")
+    verdict = settlement.verdict()
+    if verdict[0] != 1:
+        return wrong("shows a settlement with verdict %d %d %d %s %d" % verdict)
+    return settlement.sheet()
+
+
 def sheet(data, room, answer):
     """The expected answer to `sheet`, given the program's own."""
     try:
@@ -413,14 +477,8 @@ def sheet(data, room, answer):
     head, _, text = answer.partition("\n")
     if not head.startswith("  done "):
         return wrong("the ticket can be settled")
-    try:
-        settlement = shown_settlement(ticket, text)
-    except (ValueError, KeyError):
-        return wrong("not laid out as a sheet")
-    verdict = settlement.verdict()
-    if verdict[0] != 1:
-        return wrong("shows a settlement with verdict %d %d %d %s %d" % verdict)
-    return text_reply(settlement.sheet(), room)
+    text = sound_sheet(ticket, text)
+    return text if text.startswith(WRONG) else text_reply(text, room)
 
 
 def numeral(parts):
@@ -479,6 +537,106 @@ def answer_to(line, own):
     return (settled if operation == "settle" else sheet)(data, room, own)
 
 
+# The lines of a desk
+
+
+class Desk:
+    """A desk's answers, line by line. `own` has the lines that the program printed, of which each answer takes its part."""
+
+    def __init__(self, data, own):
+        self.market = OpenMarket(data)
+        self.own = own
+        self.shown = None  # the sheet, once one was printed and while no call was accepted since
+
+    def take(self, count):
+        """The program's next lines, fewer at their end."""
+        taken, self.own = self.own[:count], self.own[count:]
+        return taken
+
+    def answer(self, line):
+        words = re.findall(r"[^ \t\r]+", line)
+        if not words and len(line) <= LONGEST_LINE:
+            return ""
+        try:
+            if len(line) > LONGEST_LINE:
+                raise NotUnderstood
+            return self.spoken(words)
+        except NotUnderstood:
+            self.take(1)
+            return "?\n"
+
+    def spoken(self, words):
+        if len(words) == 4 and words[0] in ("grower", "pilot") and words[2] == "hours":
+            party = GROWER if words[0] == "grower" else PILOT
+            who, hours = (list_word(word) for word in (words[1], words[3]))
+            return self.call(lambda: self.market.set_hours(party, who, hours))
+        if len(words) == 8 and words[0] == "pair":
+            numbers = [list_word(word) for word in words[1:]]
+            return self.call(lambda: self.market.set_pair(*numbers))
+        if words == ["sheet"]:
+            return self.sheet()
+        if words == ["ticket"]:
+            listed = ticket_lines(self.market.ticket)
+            self.take(len(listed))
+            return "".join(line + "\n" for line in listed)
+        if words == ["help"]:
+            return self.help()
+        if len(words) == 3 and words[0] == "save":
+            return self.saved()
+        raise NotUnderstood
+
+    def call(self, change):
+        self.take(1)
+        try:
+            change()
+        except Refused as refusal:
+            return "REFUSED %d\n" % refusal.why
+        self.shown = None
+        return "OK\n"
+
+    def sheet(self):
+        length = next((k + 1 for k, line in enumerate(self.own) if line.startswith("SOUND ")), 1)
+        own = "".join(line + "\n" for line in self.take(length))
+        expected = sound_sheet(self.market.ticket, own)
+        if self.shown not in (None, expected):
+            return wrong("another sheet than before, though no call was accepted")
+        self.shown = expected
+        return expected
+
+    def help(self):
+        kinds = ("grower", "pilot", "pair", "sheet", "ticket", "save", "help")
+        own = self.take(len(kinds))
+        if [line.split(" ")[0] for line in own] != list(kinds):
+            return wrong("not a line for each kind of line")
+        return "".join(line + "\n" for line in own)
+
+    def saved(self):
+        own = self.take(1)
+        return own[0] + "\n" if own in (["OK"], ["FAILED"]) else wrong("neither OK nor FAILED")
+
+
+def ticket_lines(ticket):
+    """A ticket as `exchange unpack` prints it."""
+    lines = ["growers %d pilots %d" % (ticket.n, ticket.m)]
+    for name, all_hours in ("grower", ticket.grower_hours), ("pilot", ticket.pilot_hours):
+        lines += ["%s %d hours %d" % (name, who, hours) for who, hours in enumerate(all_hours)]
+    for pair, terms in ticket.terms.items():
+        lines.append("pair %d %d tariff cap %d gains %d %d free cap %d gain %d" % (*pair, *terms))
+    return lines
+
+
+def desk_report(data, lines, own):
+    """What a desk that was opened with a ticket must print for these lines. `own` has the lines that the program printed."""
+    try:
+        desk = Desk(data, own)
+    except Refused as refusal:
+        return "REFUSED %d\n" % refusal.why
+    return "".join(desk.answer(line) for line in lines)
+
+
+# Reports
+
+
 def echo(line):
     return (line[:SHOWN] + " .." if len(line) > SHOWN else line) + "\n"
 
@@ -495,23 +653,36 @@ def own_answers(lines, output):
     return answers
 
 
-def main():
-    with open(sys.argv[1], encoding="ascii") as cases, open(sys.argv[2], encoding="ascii") as output:
-        text = cases.read()
-        lines = text.split("\n")[:-1]
-        last = "  %d bytes read" % len(text)
-        answers = own_answers(lines + [last], output.read())
+def cases_report(text, output):
+    lines = text.split("\n")[:-1]
+    last = "  %d bytes read" % len(text)
+    answers = own_answers(lines + [last], output)
     run = unknown = 0
+    report = []
     for line, own in zip(lines, answers):
-        sys.stdout.write(echo(line))
+        report.append(echo(line))
         if line and not line.startswith("#"):
             try:
-                sys.stdout.write(answer_to(line, own))
+                report.append(answer_to(line, own))
                 run += 1
             except NotUnderstood:
-                sys.stdout.write("  ?\n")
+                report.append("  ?\n")
                 unknown += 1
-    sys.stdout.write(echo(last) + "  %d cases\n  %d not understood\n" % (run, unknown))
+    return "".join(report) + echo(last) + "  %d cases\n  %d not understood\n" % (run, unknown)
+
+
+def text_of(name):
+    with open(name, encoding="latin-1", newline="") as file:
+        return file.read()
+
+
+def main():
+    if sys.argv[1] == "desk":
+        with open(sys.argv[2], "rb") as ticket:
+            data = list(ticket.read())
+        sys.stdout.write(desk_report(data, *(text_of(name).removesuffix("\n").split("\n") for name in sys.argv[3:5])))
+    else:
+        sys.stdout.write(cases_report(*(text_of(name) for name in sys.argv[1:3])))
 
 
 main()

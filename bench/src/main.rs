@@ -5,6 +5,7 @@
 //! Debian) its network simplex is timed too.
 
 use exchange_bench::draw::shapes::shapes;
+use exchange_bench::tables::calls::calls;
 use exchange_bench::tables::operations::operations;
 use exchange_bench::tables::settling::{guessing, settling, turns};
 use exchange_bench::timing::{FEWEST_SAMPLES, MOST_SAMPLES, SAMPLE};
@@ -31,4 +32,9 @@ fn main() {
     turns(&shapes).print();
     println!();
     operations().print();
+    println!(
+        "\nA call on an open market gives one pair other terms; the market is settled anew and holds the settlement. Beside it the \
+         ticket as it is then is settled from its bytes.\n"
+    );
+    calls().print();
 }

@@ -1,6 +1,7 @@
 //! The proved exchange, called over its C interface.
 
 use crate::plain::Deal;
+use crate::plain::open_market::MARKET_NUMBERS;
 
 /// A refusal of the C interface, or what it answers else.
 pub type Answer<T> = Result<T, u8>;
@@ -32,6 +33,14 @@ unsafe extern "C" {
         length: usize,
         list: *mut u32,
         places: usize,
+    ) -> u32;
+    fn exchange_open(ticket: *const u8, bytes: usize, market: *mut u16, places: usize) -> u32;
+    fn exchange_call(market: *mut u16, places: usize, calls: *const u16, numbers: usize) -> u32;
+    fn exchange_market_settlement(
+        market: *const u16,
+        places: usize,
+        settlement: *mut u8,
+        room: usize,
     ) -> u32;
     fn exchange_mark(ticket: *const u8, bytes: usize, settlement: *const u8, length: usize) -> u64;
     fn exchange_worth(ticket: *const u8, bytes: usize, settlement: *const u8, length: usize)
@@ -95,6 +104,33 @@ pub fn account(ticket: &[u8], settlement: &[u8], list: &mut [u32]) -> Answer<usi
             list.as_mut_ptr(),
             list.len(),
         )
+    };
+    count_or_refusal(number)
+}
+
+/// Opens a market: writes its ticket's numbers and those of a sound settlement, in `plain::open_market::MARKET_NUMBERS` places.
+pub fn open(ticket: &[u8], market: &mut [u16]) -> Answer<usize> {
+    let places = market.len();
+    // SAFETY: as above.
+    let number =
+        unsafe { exchange_open(ticket.as_ptr(), ticket.len(), market.as_mut_ptr(), places) };
+    count_or_refusal(number)
+}
+
+/// Makes calls on an open market, each in turn. A refusal is the first; calls after it are made all the same.
+pub fn call(market: &mut [u16], calls: &[u16]) -> Answer<()> {
+    let places = market.len();
+    // SAFETY: as above.
+    let number = unsafe { exchange_call(market.as_mut_ptr(), places, calls.as_ptr(), calls.len()) };
+    count_or_refusal(number).map(|count| assert_eq!(count, MARKET_NUMBERS))
+}
+
+/// The file of the settlement that an open market holds.
+pub fn market_settlement(market: &[u16], settlement: &mut [u8]) -> Answer<usize> {
+    let room = settlement.len();
+    // SAFETY: as above.
+    let number = unsafe {
+        exchange_market_settlement(market.as_ptr(), market.len(), settlement.as_mut_ptr(), room)
     };
     count_or_refusal(number)
 }

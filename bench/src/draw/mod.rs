@@ -1,5 +1,6 @@
 //! Inputs drawn from a seed, and the tickets of the benchmark.
 
+pub mod calls;
 pub mod changes;
 pub mod damage;
 pub mod generator;

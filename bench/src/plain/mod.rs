@@ -8,6 +8,7 @@ pub mod guess;
 pub mod mark;
 pub mod method;
 pub mod numbers;
+pub mod open_market;
 pub mod quick;
 mod rows;
 pub mod settle;
@@ -38,6 +39,8 @@ pub enum Refusal {
     SettlementBytesLeft = 16,
     NotSound = 17,
     CapWithoutHours = 18,
+    NoSuchParty = 19,
+    AgainstLimits = 20,
 }
 
 /// The two deals of a pair.

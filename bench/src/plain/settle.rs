@@ -30,7 +30,12 @@ pub fn certified_guess(ticket: &TicketSquares) -> Option<SettlementSquares> {
     certified(ticket, &settlement).then_some(settlement)
 }
 
-/// A sound settlement of a ticket, the one that `settle` writes.
+/// A sound settlement on squares, the one that `settle` writes.
+pub(super) fn settled_squares(ticket: &TicketSquares) -> SettlementSquares {
+    certified_guess(ticket).unwrap_or_else(|| SettlementSquares::of(&by_turns(&ticket.ticket())))
+}
+
+/// The same of a ticket.
 pub fn settled(ticket: &Ticket) -> Settlement {
     match certified_guess(&TicketSquares::of(ticket)) {
         Some(guessed) => guessed.settlement(ticket.growers(), ticket.pilots()),

@@ -2,7 +2,7 @@
 
 use super::numbers::write_number;
 use super::settlement::{Agreement, KIND, Settlement};
-use super::ticket::{Parts, Ticket};
+use super::ticket::{Parts, Terms, Ticket};
 
 /// The most growers, and the most pilots.
 pub const SIDE: usize = 16;
@@ -60,14 +60,38 @@ impl TicketSquares {
         };
         for (grower, row) in parts.terms.chunks_exact(5 * pilots).enumerate() {
             for (pilot, terms) in row.chunks_exact(5).enumerate() {
-                squares.tariff_cap[grower][pilot] = terms[0];
-                squares.tariff_gain[grower][pilot] = terms[1];
-                squares.tariff_pay[grower][pilot] = terms[2];
-                squares.free_cap[grower][pilot] = terms[3];
-                squares.joint_gain[grower][pilot] = terms[4];
+                squares.set_terms(grower, pilot, Terms::from_numbers(terms));
             }
         }
         squares
+    }
+
+    /// The ticket of these squares.
+    pub(super) fn ticket(&self) -> Ticket {
+        let terms = |pair| self.terms(pair / self.pilots, pair % self.pilots);
+        Ticket {
+            grower_hours: self.grower_hours[..self.growers].to_vec(),
+            pilot_hours: self.pilot_hours[..self.pilots].to_vec(),
+            terms: (0..self.growers * self.pilots).map(terms).collect(),
+        }
+    }
+
+    fn terms(&self, grower: usize, pilot: usize) -> Terms {
+        Terms {
+            tariff_cap: self.tariff_cap[grower][pilot],
+            tariff_gain: self.tariff_gain[grower][pilot],
+            tariff_pay: self.tariff_pay[grower][pilot],
+            free_cap: self.free_cap[grower][pilot],
+            joint_gain: self.joint_gain[grower][pilot],
+        }
+    }
+
+    pub(super) fn set_terms(&mut self, grower: usize, pilot: usize, terms: Terms) {
+        self.tariff_cap[grower][pilot] = terms.tariff_cap;
+        self.tariff_gain[grower][pilot] = terms.tariff_gain;
+        self.tariff_pay[grower][pilot] = terms.tariff_pay;
+        self.free_cap[grower][pilot] = terms.free_cap;
+        self.joint_gain[grower][pilot] = terms.joint_gain;
     }
 }
 

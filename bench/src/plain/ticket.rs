@@ -7,7 +7,7 @@ const KIND: u16 = 1;
 const MOST_PARTIES: u16 = 16;
 pub const MOST_HOURS: u16 = 60;
 pub const MOST_AMOUNT: u16 = 500;
-const MOST_NUMBERS: usize = 1315;
+pub(super) const MOST_NUMBERS: usize = 1315;
 
 /// How many cents a euro has.
 pub const CENTS: u16 = 100;
@@ -104,7 +104,7 @@ impl Terms {
         u32::from(self.joint_gain) > u32::from(one) + u32::from(other)
     }
 
-    fn from_numbers(numbers: &[u16]) -> Terms {
+    pub(super) fn from_numbers(numbers: &[u16]) -> Terms {
         Terms {
             tariff_cap: numbers[0],
             tariff_gain: numbers[1],

@@ -1,5 +1,6 @@
 //! The tables of the benchmark, in Markdown.
 
+pub mod calls;
 pub mod operations;
 pub mod settling;
 

@@ -6,6 +6,7 @@ mod buffers;
 mod guess;
 mod mark;
 mod old_caps;
+mod open_market;
 mod pack;
 mod paper;
 mod settle;

@@ -40,6 +40,13 @@ noRoom = 10
 abbrev pub notSound : ℕ
 notSound = 17
 
+-- 19, 20: a call names nobody of the market, or a number that no ticket may have there.
+abbrev pub noParty : ℕ
+noParty = 19
+
+abbrev pub againstLimits : ℕ
+againstLimits = 20
+
 -- The refusal w unless the test holds.
 abbrev pub must : Bool → ℕ → ℕ
 must true w = 0

@@ -7,7 +7,9 @@ mod ticket; // ticket.rt: the fields of a ticket
 
 pub use hours::noted;
 pub use hours::pair_has_none;
+pub use refusals::AGAINST_LIMITS;
 pub use refusals::Document;
+pub use refusals::NO_PARTY;
 pub use refusals::NO_ROOM;
 pub use refusals::NOT_SOUND;
 pub use refusals::Refusals;

@@ -18,7 +18,7 @@ pub struct Refusals {
     pub left: u8, // something is left after the last number
 }
 
-// The refusals of a ticket's ranges, of a lent buffer that is too short, and of a settlement that is not sound.
+// The refusals of a ticket's ranges, of a lent buffer that is too short, of a settlement that is not sound, and of calls.
 pub(crate) const HOURS_ABOVE_LIMIT: u8 = 6;
 
 pub(crate) const ABOVE_LIMIT: u8 = 7;
@@ -30,6 +30,10 @@ pub(crate) const CAP_WITHOUT_HOURS: u8 = 18;
 pub const NO_ROOM: u8 = 10;
 
 pub const NOT_SOUND: u8 = 17;
+
+pub const NO_PARTY: u8 = 19;
+
+pub const AGAINST_LIMITS: u8 = 20;
 
 // The numbers of a document: 1 to 5 and 9 for a ticket, 11 to 16 for a settlement.
 pub fn refusals_of(document: Document) -> Refusals

@@ -90,6 +90,7 @@ fn run(operation: Operation, ticket: &[u8]) {
         Operation::Mark => with_settlement(ticket, false),
         Operation::Account => with_settlement(ticket, true),
         Operation::Unpack => unpack(ticket),
+        Operation::Desk => desk::serve(ticket),
     }
 }
 

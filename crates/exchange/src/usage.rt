@@ -11,6 +11,7 @@ pub(crate) enum Operation {
     Mark,
     Account,
     Unpack,
+    Desk,
 }
 
 pub(crate) enum Command {
@@ -42,6 +43,9 @@ pub(crate) fn command_of(word: &[u8]) -> Command {
     if check::same(word, b"unpack") {
         return on_ticket(Operation::Unpack);
     }
+    if check::same(word, b"desk") {
+        return on_ticket(Operation::Desk);
+    }
     other_command(word)
 }
 
@@ -65,6 +69,7 @@ fn words_on_ticket(operation: Operation) -> usize {
         Operation::Mark => 4,
         Operation::Account => 4,
         Operation::Unpack => 3,
+        Operation::Desk => 3,
     }
 }
 
@@ -82,7 +87,7 @@ pub(crate) fn words_of(command: Command) -> usize {
 pub(crate) fn usage() {
     say(
         STDERR_FILENO,
-        b"usage: exchange sheet|settle|mark|account|unpack|pack|draw|help ARGUMENTS\n",
+        b"usage: exchange sheet|settle|mark|account|unpack|pack|draw|desk|help ARGUMENTS\n",
     );
 }
 
@@ -99,6 +104,7 @@ pub(crate) fn help() {
         STDOUT_FILENO,
         b"exchange unpack TICKET\nexchange pack LIST TICKET\nexchange draw SEED N M TICKET\n",
     );
+    say(STDOUT_FILENO, b"exchange desk TICKET\n");
 }
 
 // A number that an argument gives, if it is one.

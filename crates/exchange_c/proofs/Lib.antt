@@ -1,4 +1,5 @@
 -- The laws of the numbers that C gets: they fit, and nothing is lost in them.
 pub mod ReplyLaws
+pub mod MarketLaws
 pub mod MarkLaws
 pub mod AccountLaws

@@ -85,7 +85,7 @@ read-short (suc g) least (b ∷ s) x rest e =
     (lt-or-le b 128)
 
 -- A list that is read has at most two bytes for each number.
-gives-short : (s xs rest : List ℕ) → Gives bytes s xs rest → length s ≤ 2 * length xs + length rest
+pub gives-short : (s xs rest : List ℕ) → Gives bytes s xs rest → length s ≤ 2 * length xs + length rest
 gives-short s [] rest g = omega (arith, ap length g)
 gives-short s (x ∷ xs) rest g = omega (arith, read-short groups 0 s x (g .0) (g .1), gives-short (g .0) xs rest (g .2))
 

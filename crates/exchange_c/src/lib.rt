@@ -11,6 +11,7 @@ ghost use Rattle.marker.specs.Marked.{markedValues};
 ghost use Rattle.settler.specs.Settled.{Settled};
 ghost use Rattle.sheets.specs.Sheeted.{Sheeted};
 ghost use Rattle.accounts.specs.Accounted.{accountOutcome};
+ghost use Rattle.market_lists.specs.Lent.{OpenedIn, CalledIn, WrittenFrom};
 ghost use Rattle.exchange_c.specs.Replies.{replyNumber, NumberOf};
 ghost use Rattle.exchange_c.specs.Marks.{markNumber, worthNumber};
 use lending::lend;
@@ -77,4 +78,28 @@ pub extern "C" fn exchange_account(ticket: &[u8], settlement: &[u8], list: &mut 
 {
     let account = accounts::account(ticket, settlement);
     reply_number(lend(account, list))
+}
+
+// `market_lists::open`: how many numbers a market has in a list, or a refusal; 10, the list is too short, comes last.
+#[no_mangle]
+pub extern "C" fn exchange_open(ticket: &[u8], market: &mut [u16]) -> u32
+    ensures { λ r. ⌜ NumberOf (OpenedIn (now (ticket .entry)) (now (market .entry)) (now (market .exit))) r ⌝ }
+{
+    reply_number(market_lists::open(ticket, market))
+}
+
+// `market_lists::call`: as many, or the first refusal among the calls; 10, the list is too short, comes first.
+#[no_mangle]
+pub extern "C" fn exchange_call(market: &mut [u16], calls: &[u16]) -> u32
+    ensures { λ r. ⌜ NumberOf (CalledIn (now (calls .entry)) (now (market .entry)) (now (market .exit))) r ⌝ }
+{
+    reply_number(market_lists::call(market, calls))
+}
+
+// `market_lists::write_settlement`: the length of the settlement of a market in bytes, or a refusal.
+#[no_mangle]
+pub extern "C" fn exchange_market_settlement(market: &[u16], settlement: &mut [u8]) -> u32
+    ensures { λ r. ⌜ NumberOf (WrittenFrom (now (market .entry)) (now (settlement .entry)) (now (settlement .exit))) r ⌝ }
+{
+    reply_number(market_lists::write_settlement(market, settlement))
 }

@@ -27,22 +27,28 @@ fn refusal_words(fd: i32, why: u8) {
             fd,
             b"a cap above 0, but the grower or the pilot has no hours",
         ),
+        19 => say(fd, b"no such grower or pilot"),
+        20 => say(fd, b"a number breaks the limits of a ticket"),
         _ => say(fd, b"something is left at its end"),
     }
 }
 
-// Whether it is the ticket that is refused: 11 to 17 are those of the settlement.
+// Whether it is the ticket that is refused, of a ticket and a settlement: 11 to 17 are those of the settlement.
 pub fn is_of_ticket(why: u8) -> bool {
     why < 11 || why == 18
 }
 
-// Which file is refused, and why.
-pub fn refusal(fd: i32, why: u8) {
-    if is_of_ticket(why) {
-        say(fd, b"ticket: ");
-    } else {
-        say(fd, b"settlement: ");
+fn refused_thing(fd: i32, why: u8) {
+    match why {
+        0..=10 | 18 => say(fd, b"ticket: "),
+        19 | 20 => say(fd, b"call: "),
+        _ => say(fd, b"settlement: "),
     }
+}
+
+// Which file or call is refused, and why.
+pub fn refusal(fd: i32, why: u8) {
+    refused_thing(fd, why);
     refusal_words(fd, why);
     end_line(fd);
 }

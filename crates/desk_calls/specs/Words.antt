@@ -1,0 +1,48 @@
+-- The words of a line. Blanks part them: spaces, tabs and carriage returns.
+-- Assumes nothing.
+use Prim.Native.Nat.{ℕ, zero, suc}
+use mathlib.Core.Bool.{Bool, true, false, not, _&&_, _||_}
+use mathlib.Core.List.{List, [], _∷_}
+use lib.Dec.{eqb}
+use lib.ListN.{length, getD, take, drop}
+use Rattle.grid.specs.First.{first}
+
+abbrev pub blank : ℕ → Bool
+blank b = eqb b 32 || (eqb b 9 || eqb b 13)
+
+-- what the byte at a place of a text is
+abbrev pub blankAt : List ℕ → ℕ → Bool
+blankAt text k = blank (getD text k 0)
+
+abbrev pub letterAt : List ℕ → ℕ → Bool
+letterAt text k = not (blank (getD text k 0))
+
+-- how many blanks a text begins with, and how many other bytes
+abbrev pub blanks : List ℕ → ℕ
+blanks text = first (letterAt text) (length text)
+
+abbrev pub letters : List ℕ → ℕ
+letters text = first (blankAt text) (length text)
+
+-- a text without the blanks that it begins with
+abbrev pub fromWord : List ℕ → List ℕ
+fromWord text = drop (blanks text) text
+
+-- the first word of a text, which is empty if it has none, and what stands after it
+abbrev pub firstWord : List ℕ → List ℕ
+firstWord text = take (letters (fromWord text)) (fromWord text)
+
+abbrev pub afterWord : List ℕ → List ℕ
+afterWord text = drop (letters (fromWord text)) (fromWord text)
+
+-- the word at a place of a line, from 0 on; empty if it has fewer
+unfoldable pub word : List ℕ → ℕ → List ℕ
+word line zero = firstWord line
+word line (suc place) = word (afterWord line) place
+
+-- whether two words are the same
+unfoldable pub same : List ℕ → List ℕ → Bool
+same [] [] = true
+same [] (b ∷ w) = false
+same (a ∷ v) [] = false
+same (a ∷ v) (b ∷ w) = eqb a b && same v w

@@ -1,0 +1,2 @@
+-- The laws of `market_lists`.
+pub mod LentLaws

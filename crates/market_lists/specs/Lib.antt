@@ -1,0 +1,2 @@
+-- The definitions that the contracts of `market_lists` cite.
+pub mod Lent
