@@ -10,19 +10,24 @@ use Rattle.grid.specs.First.{first}
 abbrev pub blank : ℕ → Bool
 blank b = eqb b 32 || (eqb b 9 || eqb b 13)
 
--- what the byte at a place of a text is
-abbrev pub blankAt : List ℕ → ℕ → Bool
-blankAt text k = blank (getD text k 0)
+-- whether a byte is what is sought: a blank, or another byte
+abbrev pub isSought : Bool → ℕ → Bool
+isSought true b = blank b
+isSought false b = not (blank b)
 
-abbrev pub letterAt : List ℕ → ℕ → Bool
-letterAt text k = not (blank (getD text k 0))
+abbrev pub soughtAt : Bool → List ℕ → ℕ → Bool
+soughtAt blanks text k = isSought blanks (getD text k 0)
+
+-- how many bytes stand before the first that is sought
+abbrev pub firstSought : Bool → List ℕ → ℕ
+firstSought blanks text = first (soughtAt blanks text) (length text)
 
 -- how many blanks a text begins with, and how many other bytes
 abbrev pub blanks : List ℕ → ℕ
-blanks text = first (letterAt text) (length text)
+blanks text = firstSought false text
 
 abbrev pub letters : List ℕ → ℕ
-letters text = first (blankAt text) (length text)
+letters text = firstSought true text
 
 -- a text without the blanks that it begins with
 abbrev pub fromWord : List ℕ → List ℕ

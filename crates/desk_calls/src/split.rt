@@ -2,7 +2,7 @@
 ghost use mathlib.Core.Path.{_≡_};
 ghost use Prim.Native.Nat.{_≤_};
 ghost use lib.ListN.{length};
-ghost use Rattle.desk_calls.specs.Words.{blank, blanks, letters, fromWord, firstWord, afterWord, word};
+ghost use Rattle.desk_calls.specs.Words.{blank, isSought, firstSought, blanks, letters, fromWord, firstWord, afterWord, word};
 
 fn is_blank(b: u8) -> bool
     ensures { λ r. ⌜ r ≡ blank b ⌝ }
@@ -10,28 +10,36 @@ fn is_blank(b: u8) -> bool
     b == 32 || (b == 9 || b == 13)
 }
 
-// How many blanks a text begins with.
-fn blanks(text: &[u8]) -> usize
-    ensures { λ r. ⌜ (r ≡ blanks (now (text .entry))) × (r ≤ length (now (text .entry))) ⌝ }
+// Whether a byte is what is sought: a blank, or another byte.
+fn is_sought(blanks: bool, b: u8) -> bool
+    ensures { λ r. ⌜ r ≡ isSought blanks b ⌝ }
+{
+    if blanks { is_blank(b) } else { !is_blank(b) }
+}
+
+// How many bytes stand before the first that is sought.
+fn first_sought(blanks: bool, text: &[u8]) -> usize
+    ensures { λ r. ⌜ (r ≡ firstSought blanks (now (text .entry))) × (r ≤ length (now (text .entry))) ⌝ }
 {
     for k in 0..text.len() {
-        if !is_blank(text[k]) {
+        if is_sought(blanks, text[k]) {
             return k;
         }
     }
     text.len()
 }
 
-// How many other bytes it begins with.
+// How many blanks a text begins with, and how many other bytes.
+fn blanks(text: &[u8]) -> usize
+    ensures { λ r. ⌜ (r ≡ blanks (now (text .entry))) × (r ≤ length (now (text .entry))) ⌝ }
+{
+    first_sought(false, text)
+}
+
 fn letters(text: &[u8]) -> usize
     ensures { λ r. ⌜ (r ≡ letters (now (text .entry))) × (r ≤ length (now (text .entry))) ⌝ }
 {
-    for k in 0..text.len() {
-        if is_blank(text[k]) {
-            return k;
-        }
-    }
-    text.len()
+    first_sought(true, text)
 }
 
 // What stands after the blanks that a text begins with.

@@ -1,7 +1,6 @@
 -- What holds of every open market: opened from a ticket it holds it, and every call keeps that.
 -- Assumes nothing.
-use Prim.Native.Nat.{ℕ, _+_, _≤_, _<_, min}
-use mathlib.Core.Bool.{true, false}
+use Prim.Native.Nat.{ℕ, _≤_, _<_, min}
 use mathlib.Core.Logic.{⊎-elim}
 use mathlib.Core.Path.{_≡_, refl, sym, subst, ap, _∙_}
 use mathlib.Core.List.{List, [], _∷_, _++_}
@@ -15,7 +14,6 @@ use Rattle.groups.specs.Groups.{pack}
 use Rattle.market.specs.Market.{Sound}
 use Rattle.market.proofs.Same.{sound-same}
 use Rattle.market.proofs.Gains.{nothing-blocks-iff}
-use Rattle.market.specs.Same.{SameSettlement}
 use Rattle.reader.specs.Walk.{Numbers}
 use Rattle.reader.specs.Answer.{unpacked}
 use Rattle.reader.proofs.Facts.{written-front, settlement-packed-read}

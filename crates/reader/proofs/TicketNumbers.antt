@@ -1,23 +1,22 @@
 -- What the numbers of a ticket have to be, in one record: an unpacked ticket is so, and numbers that are so are packed and unpacked again.
 -- Whoever changes a ticket's numbers shows that they stay so.
-use mathlib.Core.Path.{_≡_, refl, ap, _∙_}
+use mathlib.Core.Path.{_≡_, refl}
 use mathlib.Core.Bool.{Bool, true, false, _||_}
 use mathlib.Core.Logic.{_⊎_, inl, inr}
 use mathlib.Core.List.{List}
 use Prim.Native.Nat.{ℕ, _+_, _*_, _≤_, _<_}
 use native.Mathlib.Omega.{arith}
-use borrow.Author.Tests.{le-leb, eq-eqb, eqb-true}
+use borrow.Author.Tests.{le-leb, eqb-true}
 use lib.Dec.{eqb}
 use lib.ListN.{length, getD}
 use Rattle.checks.specs.TicketFaults.{pairPasses}
 use Rattle.checks.proofs.FaultLaws.{amount-clear, cap-clear, cap-none}
 use Rattle.groups.specs.Groups.{pack}
-use Rattle.grid.proofs.Cases.{never}
 use Rattle.reader.specs.Walk.{Numbers, readHead, form}
 use Rattle.reader.specs.Layout.{ticket}
 use Rattle.reader.specs.Answer.{unpacked, packed}
 use Rattle.reader.specs.Steps.{headPasses, PairsPass}
-use Rattle.reader.proofs.PairLaws.{Deal, Faultless, faultless-deal}
+use Rattle.reader.proofs.PairLaws.{Deal, faultless-deal}
 use Rattle.reader.proofs.Accepting.{passes-faultless, ticket-whole}
 use Rattle.reader.proofs.Facts.{unpacked-shape, unpacked-hours, DealAt, unpacked-deal, unpacked-none, packed-unpacked}
 

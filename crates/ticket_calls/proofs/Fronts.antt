@@ -1,15 +1,13 @@
 -- A ticket's numbers stand in front of a longer list: calls on the longer list are calls on them, and both mean the same market.
 -- Assumes nothing.
-use Prim.Native.Nat.{ℕ, zero, suc, _+_, _*_, _≤_, _<_, min}
+use Prim.Native.Nat.{ℕ, zero, suc, _+_, _≤_, _<_, min}
 use mathlib.Core.Bool.{Bool, true, false, cond, _&&_}
 use mathlib.Core.Path.{_≡_, refl, sym, ap, _∙_}
 use mathlib.Core.List.{List}
 use native.Mathlib.Omega.{arith}
-use lib.Dec.{eqb, lit<}
+use lib.Dec.{eqb}
 use lib.ListN.{getD, set, take, length, length-set}
 use lib.Seq.{sets, getD-take, length-sets}
-use Rattle.checks.specs.Refusals.{noParty, againstLimits}
-use Rattle.market.specs.Market.{Ticket}
 use Rattle.market.specs.Same.{SameTicket}
 use Rattle.offers.specs.declared.Terms.{Terms}
 use Rattle.reader.proofs.Accepting.{both-hold}
@@ -17,7 +15,7 @@ use Rattle.reader.proofs.Facts.{pair-below}
 use Rattle.tables.specs.View.{growersOf, pilotsOf, pairPlace, ticketOf, firstSixteen, ticketLength}
 use Rattle.ticket_calls.specs.declared.Party.{Party}
 use Rattle.ticket_calls.specs.declared.Party.the-variants.{Grower, Pilot}
-use Rattle.ticket_calls.specs.Calls.{Call, SetHours, SetPair, NoCall, hoursPlace, partners, isIn, hoursOf, numbersOf, noTerms}
+use Rattle.ticket_calls.specs.Calls.{Call, SetHours, SetPair, NoCall, hoursPlace, isIn, hoursOf, numbersOf, noTerms}
 use Rattle.ticket_calls.specs.Calls.{withHours, withTerms, cleared, withoutDeals, changed, termsRefusal, refusalOf}
 use Rattle.ticket_calls.specs.Calls as calls
 use Rattle.ticket_calls.proofs.Stores.{take-set, take-sets}

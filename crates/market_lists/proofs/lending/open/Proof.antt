@@ -1,6 +1,6 @@
 -- `market_lists::lending::open` meets its contract: the ticket is refused, or the list is too short, or the market is written.
 -- Assumes nothing.
-use mathlib.Core.Path.{_≡_, refl}
+use mathlib.Core.Path.{_≡_}
 use native.Mathlib.Omega.{arith}
 use lib.ListN.{length, length-append}
 use borrow.Author.Needs.{needs}

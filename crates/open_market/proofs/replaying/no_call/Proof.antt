@@ -4,7 +4,6 @@ use mathlib.Core.Path.{refl}
 use lib.Dec.{lit<}
 use Rattle.ticket_calls.specs.Calls.{NoCall}
 use Rattle.open_market.proofs.CallLaws.{refused-called}
-use borrow.Author.Needs.{needs}
 use Rattle.open_market.proofs.replaying.no_call.Statement.{statement}
 use Rattle.open_market.proofs.replaying.no_call.Tie as tie
 

@@ -1,7 +1,7 @@
 -- `open_market::replaying::replay` meets its contract: the calls are done one after another.
 -- Assumes nothing.
 use Prim.Native.Nat.{_-_, _≤_}
-use mathlib.Core.Path.{_≡_, refl, _∙_}
+use mathlib.Core.Path.{refl}
 use native.Mathlib.Omega.{arith}
 use Rattle.open_market.specs.Lists.{firstCalls}
 use Rattle.open_market.proofs.Histories.{Done, done-none, done-more, done-all}

@@ -1,6 +1,4 @@
 -- `tables::ticket_front` meets its contract.
-use Prim.Native.Nat.{ℕ, _+_, _*_}
-use mathlib.Core.Path.{_∙_}
 use borrow.Author.Needs.{needs}
 use Rattle.tables.proofs.quantities.ticket_front.Statement.{statement}
 use Rattle.tables.proofs.quantities.ticket_front.Tie as tie

@@ -1,7 +1,7 @@
 -- `ticket_calls::changes::clear` meets its contract: the pairs are cleared one after another.
 -- Assumes nothing.
 use Prim.Native.Nat.{_-_, _≤_}
-use mathlib.Core.Path.{_≡_, sym, ap, _∙_}
+use mathlib.Core.Path.{_≡_, sym}
 use native.Mathlib.Omega.{arith}
 use Rattle.tables.specs.View.{growersOf, pilotsOf}
 use Rattle.ticket_calls.specs.Calls.{partners, cleared}

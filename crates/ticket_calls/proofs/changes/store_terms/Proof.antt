@@ -1,6 +1,6 @@
 -- `ticket_calls::changes::store_terms` meets its contract: five stores, one after another.
 -- Assumes nothing.
-use mathlib.Core.Path.{_≡_, ap}
+use mathlib.Core.Path.{_≡_}
 use Prim.Native.Nat.{ℕ, suc, _+_}
 use mathlib.Core.List.{List}
 use native.Mathlib.Omega.{arith}

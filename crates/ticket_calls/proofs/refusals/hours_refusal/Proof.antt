@@ -3,7 +3,6 @@
 use mathlib.Core.Path.{sym, _∙_}
 use borrow.Author.Needs.{needs}
 use borrow.Author.Tests.{not-true, not-false}
-use native.Mathlib.Omega.{arith}
 use Rattle.ticket_calls.proofs.RefusalLaws.{hours-of-nobody, hours-fault, hours-pass}
 use Rattle.ticket_calls.proofs.refusals.hours_refusal.Statement.{statement}
 use Rattle.ticket_calls.proofs.refusals.hours_refusal.Tie as tie
