@@ -1,3 +1,3 @@
--- The laws of `checks`, which `reader` cites.
+-- The laws of `checks`.
 pub mod FaultLaws
 pub mod HourLaws

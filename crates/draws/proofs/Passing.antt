@@ -16,15 +16,15 @@ use Rattle.checks.specs.Hours.{notedAll, noneOf, noneIn}
 use Rattle.checks.proofs.HourLaws.{none-noted}
 use Rattle.groups.specs.Groups.{pack}
 use Rattle.reader.specs.Walk.{Numbers, readHead}
-use Rattle.reader.specs.State.{start}
-use Rattle.reader.specs.Layout.{ticket}
+use Rattle.documents.specs.State.{start}
+use Rattle.documents.specs.Layout.{ticket}
 use Rattle.reader.specs.Answer.{packed, reply, Tells, kept}
-use Rattle.reader.proofs.WalkLaws.{Good, Accepted, accepts-form}
-use Rattle.reader.proofs.Undoing.{head-whole}
+use Rattle.documents.proofs.WalkLaws.{Good, Accepted, accepts-form}
+use Rattle.documents.proofs.Undoing.{head-whole}
 use Rattle.reader.proofs.Telling.{tells, refuses}
-use Rattle.reader.proofs.Accepting.{both-hold}
+use Rattle.documents.proofs.Tests.{both-hold}
 use Rattle.reader.proofs.Facts.{reply-with-room, reply-without-room, kept-without-room}
-use Rattle.reader.proofs.TicketLaws.{Stands, place-after, deal-place}
+use Rattle.documents.proofs.TicketLaws.{Stands, place-after, deal-place}
 use Rattle.draws.specs.Generator as generator
 use Rattle.draws.specs.Drawn.{hoursFrom, capFrom, drawnHours, drawnPairs, ticketFrom}
 use Rattle.draws.specs.Drawn.{inRange, bothInRange, drawn, Passes}

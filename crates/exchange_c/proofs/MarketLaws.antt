@@ -12,10 +12,10 @@ use lib.Seq.{length-sets}
 use Rattle.grid.proofs.Cases.{lt-or-le}
 use Rattle.reader.specs.declared.Reply.{Reply}
 use Rattle.reader.specs.Walk.{Outcome, Refusal, Numbers}
-use Rattle.reader.specs.Layout.{settlement}
+use Rattle.documents.specs.Layout.{settlement}
 use Rattle.reader.specs.Answer.{unpacked, reply}
 use Rattle.groups.specs.Groups.{bytes}
-use Rattle.reader.proofs.WalkLaws.{form-accepts}
+use Rattle.documents.proofs.WalkLaws.{form-accepts}
 use Rattle.reader.proofs.Facts.{settlement-packed-read}
 use Rattle.tables.specs.View.{growersOf, pilotsOf, settlementFront, settlementLength}
 use Rattle.open_market.specs.declared.held.Market.{Market}

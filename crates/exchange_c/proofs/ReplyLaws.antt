@@ -18,12 +18,12 @@ use Rattle.reader.specs.declared.Reply.{Reply}
 use Rattle.checks.specs.Refusals.{noRoom}
 use Rattle.groups.specs.Groups.{Read, Number, Ends, TooLong, Padded, raise, readFrom, groups, bytes, pack}
 use Rattle.reader.specs.Walk.{Outcome, Refusal, Numbers, readHead, form}
-use Rattle.reader.specs.Steps.{Gives}
-use Rattle.reader.specs.Layout.{ticket, settlement}
+use Rattle.documents.specs.Walk.{Gives}
+use Rattle.documents.specs.Layout.{ticket, settlement}
 use Rattle.reader.specs.Answer.{unpacked, packed, packedAs, settlementRead, reply}
 use Rattle.groups.proofs.GroupLaws.{read-padded, read-last, read-more}
-use Rattle.reader.proofs.WalkLaws.{form-accepts}
-use Rattle.reader.proofs.TicketLaws.{shape}
+use Rattle.documents.proofs.WalkLaws.{form-accepts}
+use Rattle.documents.proofs.TicketLaws.{shape}
 use Rattle.reader.proofs.Facts.{unpacked-shape, settlement-shape}
 use Rattle.tables.specs.View.{growersOf, pilotsOf}
 use Rattle.settler.specs.Settled.{SettledIn, Answers, settledAs, Settled, roomFor}

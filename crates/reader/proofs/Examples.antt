@@ -2,7 +2,7 @@
 use mathlib.Core.Path.{_≡_, refl}
 use mathlib.Core.List.{[], _∷_}
 use Rattle.groups.specs.Groups.{readFrom}
-use Rattle.reader.specs.Walk.{Refusal, Numbers, walk, form}
+use Rattle.documents.specs.Walk.{Refusal, Numbers, walk, form}
 use Rattle.reader.specs.Answer.{unpacked, settlementRead, settlementPacked}
 
 abbrev pub Tickets : Type 0

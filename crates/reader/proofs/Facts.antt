@@ -14,16 +14,16 @@ use Rattle.reader.specs.declared.Reply.{Reply}
 use Rattle.checks.proofs.HourLaws.{none-of-pair}
 use Rattle.checks.specs.Refusals.{noRoom}
 use Rattle.groups.specs.Groups.{Bytes, groups, bytes, pack}
-use Rattle.reader.specs.Walk.{Outcome, Refusal, Numbers, readHead, form}
-use Rattle.reader.specs.Layout.{formOf, ticket, settlement}
+use Rattle.documents.specs.Walk.{Outcome, Refusal, Numbers, readHead, form}
+use Rattle.documents.specs.Layout.{formOf, ticket, settlement}
 use Rattle.reader.specs.Answer.{unpacked, packed, packedAs, settlementRead, settlementPacked, counted, reply, kept}
 use Rattle.grid.proofs.Cases.{never, lt-or-le}
-use Rattle.reader.proofs.WalkLaws.{Accepted, form-accepts, accepts-form}
-use Rattle.reader.proofs.Undoing.{unpacked-packs, packed-unpacks, head-whole}
-use Rattle.reader.proofs.TicketLaws.{Shape, shape, ticket-hours}
-use Rattle.reader.proofs.PairLaws.{Deal, ticket-deal, ticket-none}
-use Rattle.reader.proofs.SettlementLaws.{SettlementShape, accepted-settlement, settlement-accepts, settlement-short}
-use Rattle.reader.proofs.LayoutLaws.{number-small}
+use Rattle.documents.proofs.WalkLaws.{Accepted, form-accepts, accepts-form}
+use Rattle.documents.proofs.Undoing.{unpacked-packs, packed-unpacks, head-whole}
+use Rattle.documents.proofs.TicketLaws.{Shape, shape, ticket-hours}
+use Rattle.documents.proofs.PairLaws.{Deal, ticket-deal, ticket-none}
+use Rattle.documents.proofs.SettlementLaws.{SettlementShape, accepted-settlement, settlement-accepts, settlement-short}
+use Rattle.documents.proofs.LayoutLaws.{number-small}
 
 -- Undoing, for either document.
 received-delivers : (p : Document) (s xs : List ℕ) → Bytes s → form (formOf p) bytes s ≡ Numbers xs →

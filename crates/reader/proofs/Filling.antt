@@ -9,31 +9,34 @@ use lib.Dec.{lit<}
 use lib.ListN.{length, getD, set, take, drop, length-set, drop-of-length-le}
 use lib.Seq.{sets, drop-cons, length-take-le}
 use Rattle.checks.specs.declared.refusals.Document.{Document}
-use Rattle.reader.specs.declared.layout.State.{State}
+use Rattle.documents.specs.declared.State.{State}
 use Rattle.groups.specs.declared.Got.{Got}
+use Rattle.scanning.specs.declared.Scanned.{Scanned}
 use Rattle.reader.specs.declared.Reply.{Reply}
 use Rattle.checks.specs.Refusals.{noRoom}
 use Rattle.groups.specs.Groups.{Read, Number, Ends, TooLong, Padded, bytes, placed}
-use Rattle.reader.specs.Walk.{Outcome, Refusal, Numbers, readHead, form}
-use Rattle.reader.specs.State.{start}
-use Rattle.reader.specs.Layout.{afterIn, formOf}
-use Rattle.reader.specs.Answer.{counted, Tells, kept}
-use Rattle.reader.specs.Steps.{Gives, firstNumbers, Fillable}
+use Rattle.documents.specs.Walk.{Outcome, Refusal, Numbers, readHead, form}
+use Rattle.documents.specs.State.{start}
+use Rattle.documents.specs.Layout.{afterIn, formOf}
+use Rattle.scanning.specs.Runs.{scanned}
+use Rattle.reader.specs.Answer.{Tells, kept}
+use Rattle.documents.specs.Walk.{Gives}
+use Rattle.reader.specs.Steps.{firstNumbers, Fillable}
 use Rattle.grid.proofs.Cases.{never}
 use Rattle.groups.proofs.Ends.{EndOf, end-trans, end-place}
 use Rattle.reader.proofs.Telling.{refuses, counts}
-use Rattle.reader.proofs.WalkLaws.{Good, form-accepts, accepts-form}
-use Rattle.reader.proofs.LayoutLaws.{number-small}
-use Rattle.reader.proofs.Running.{bytes-ending}
+use Rattle.documents.proofs.WalkLaws.{Good, form-accepts, accepts-form}
+use Rattle.documents.proofs.LayoutLaws.{number-small}
+use Rattle.scanning.proofs.Running.{bytes-ending}
 
 -- The numbers of an outcome.
 abbrev pub listed : Outcome → List ℕ
 listed (Refusal w) = []
 listed (Numbers xs) = xs
 
-counted-done : (o : Outcome) (k : ℕ) → Reply.Done k ≡ counted o → (o ≡ Numbers (listed o)) × (k ≡ length (listed o))
-counted-done (Refusal w) k e = never cc
-counted-done (Numbers xs) k e = (refl, cc)
+whole-listed : (o : Outcome) (k : ℕ) → Scanned.Whole k ≡ scanned o → (o ≡ Numbers (listed o)) × (k ≡ length (listed o))
+whole-listed (Refusal w) k e = never cc
+whole-listed (Numbers xs) k e = (refl, cc)
 
 good-words : (p : Document) (s : State) (xs : List ℕ) → Good (formOf p) s xs → (i : ℕ) → getD xs i 0 < 65536
 good-words p s [] g i = lit< tt
@@ -47,11 +50,11 @@ first-given s [] b g = refl
 first-given s (x ∷ xs) b g = rw (g .1) (ap (λ (l : List ℕ). x ∷ l) (first-given (g .0) xs b (g .2)))
 
 -- Bytes that were scanned can be filled in.
-pub scanned-fills : (p : Document) (s : List ℕ) (k : ℕ) → Reply.Done k ≡ counted (form (formOf p) bytes s) →
+pub scanned-fills : (p : Document) (s : List ℕ) (k : ℕ) → Scanned.Whole k ≡ scanned (form (formOf p) bytes s) →
     Fillable s k × (firstNumbers k s ≡ listed (form (formOf p) bytes s))
 scanned-fills p s k e =
     let xs = listed (form (formOf p) bytes s) in
-    let d = counted-done (form (formOf p) bytes s) k e in
+    let d = whole-listed (form (formOf p) bytes s) k e in
     let a = form-accepts (formOf p) bytes s xs (d .0) in
     let f : firstNumbers k s ≡ xs = rw (d .1) (first-given s xs [] (a .1)) in
     (record { long = ap length f ∙ sym (d .1); gives = rw f (a .1); words = rw f (good-words p start xs (a .0 .good)) }, f)
@@ -133,12 +136,12 @@ pub copying-ends : (xs lent list : List ℕ) (k : ℕ) → Copying xs lent list 
 copying-ends xs lent list k r h = rw (drop-of-length-le xs h) at (r .same)
 
 -- The whole answer from that of the scan.
-pub reply-refused : (o : Outcome) (lent : List ℕ) (w : ℕ) → Reply.Refused w ≡ counted o →
+pub reply-refused : (o : Outcome) (lent : List ℕ) (w : ℕ) → Scanned.Refused w ≡ scanned o →
     Tells (Reply.Refused w) (length lent) o × (lent ≡ kept lent o)
-reply-refused (Refusal v) lent w e = (refuses _ v e, refl)
+reply-refused (Refusal v) lent w e = let d : w ≡ v = cc in (refuses _ v (ap Reply.Refused d), refl)
 reply-refused (Numbers xs) lent w e = never cc
 
-pub reply-short : (o : Outcome) (lent : List ℕ) (k : ℕ) → Reply.Done k ≡ counted o → length lent < k →
+pub reply-short : (o : Outcome) (lent : List ℕ) (k : ℕ) → Scanned.Whole k ≡ scanned o → length lent < k →
     Tells (Reply.Refused noRoom) (length lent) o × (lent ≡ kept lent o)
 reply-short (Refusal v) lent k e h = never cc
 reply-short (Numbers xs) lent k e h =
@@ -146,13 +149,13 @@ reply-short (Numbers xs) lent k e h =
     let l = lt-leb (length xs) (length lent) (omega arith) in
     (rw l (refuses _ noRoom refl), rw l)
 
-pub reply-done : (o : Outcome) (lent list : List ℕ) (k : ℕ) → Reply.Done k ≡ counted o → k ≤ length lent → list ≡ sets lent 0 (listed o) →
+pub reply-done : (o : Outcome) (lent list : List ℕ) (k : ℕ) → Scanned.Whole k ≡ scanned o → k ≤ length lent → list ≡ sets lent 0 (listed o) →
     Tells (Reply.Done k) (length lent) o × (list ≡ kept lent o)
 reply-done (Refusal v) lent list k e h f = never cc
 reply-done (Numbers xs) lent list k e h f =
-    let n : k ≡ length xs = cc in let l = le-leb (length xs) (length lent) (omega arith) in (rw l (counts _ (length xs) e), rw l f)
+    let n : k ≡ length xs = cc in let l = le-leb (length xs) (length lent) (omega arith) in (rw l (counts _ (length xs) (ap Reply.Done n)), rw l f)
 
-pub reply-filled : (p : Document) (s lent list : List ℕ) (k : ℕ) → Reply.Done k ≡ counted (form (formOf p) bytes s) → k ≤ length lent →
+pub reply-filled : (p : Document) (s lent list : List ℕ) (k : ℕ) → Scanned.Whole k ≡ scanned (form (formOf p) bytes s) → k ≤ length lent →
     list ≡ sets lent 0 (firstNumbers k s) →
     Tells (Reply.Done k) (length lent) (form (formOf p) bytes s) × (list ≡ kept lent (form (formOf p) bytes s))
 reply-filled p s lent list k e h f = reply-done (form (formOf p) bytes s) lent list k e h (f ∙ ap (sets lent 0) (scanned-fills p s k e .1))
@@ -174,8 +177,8 @@ decoded p s own xs (suc k) gives e f =
     }
 
 module _ {p : Document} {s xs : List ℕ} {count : ℕ} (d : Decoded p s xs count) (lent : List ℕ) where
-  counts-them : Reply.Done count ≡ counted (form (formOf p) bytes s)
-  counts-them = rw (d .whole) (ap Reply.Done (sym (d .long)))
+  counts-them : Scanned.Whole count ≡ scanned (form (formOf p) bytes s)
+  counts-them = rw (d .whole) (ap Scanned.Whole (sym (d .long)))
 
   pub decoded-short : length lent < count →
       Tells (Reply.Refused noRoom) (length lent) (form (formOf p) bytes s) × (lent ≡ kept lent (form (formOf p) bytes s))

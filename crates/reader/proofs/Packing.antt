@@ -10,37 +10,39 @@ use lib.Dec.{lit<}
 use lib.ListN.{length, getD, take, set, drop, length-append, drop-of-length-le}
 use lib.Seq.{sets, length-sets, drop-cons}
 use Rattle.checks.specs.declared.refusals.Document.{Document}
+use Rattle.scanning.specs.declared.Scanned.{Scanned}
 use Rattle.reader.specs.declared.Reply.{Reply}
 use Rattle.checks.specs.Refusals.{noRoom}
 use Rattle.groups.specs.Groups.{encode, groups, pack}
-use Rattle.reader.specs.Walk.{Outcome, Refusal, Numbers, readHead, final, form}
-use Rattle.reader.specs.State.{start}
-use Rattle.reader.specs.Layout.{formOf}
-use Rattle.reader.specs.Answer.{packedAs, counted, Tells, kept}
+use Rattle.documents.specs.Walk.{Outcome, Refusal, Numbers, readHead, final, form}
+use Rattle.documents.specs.State.{start}
+use Rattle.documents.specs.Layout.{formOf}
+use Rattle.scanning.specs.Runs.{scanned}
+use Rattle.reader.specs.Answer.{packedAs, Tells, kept}
 use Rattle.reader.specs.Steps.{mostBytes}
 use Rattle.grid.proofs.Cases.{never}
 use Rattle.reader.proofs.Telling.{refuses, counts}
-use Rattle.reader.proofs.WalkLaws.{Accepted, good-take, form-accepts}
-use Rattle.reader.proofs.Undoing.{packed-unpacks}
-use Rattle.reader.proofs.LayoutLaws.{number-small, start-known, known-final, body-few, good-short}
+use Rattle.documents.proofs.WalkLaws.{Accepted, good-take, form-accepts}
+use Rattle.documents.proofs.Undoing.{packed-unpacks}
+use Rattle.documents.proofs.LayoutLaws.{number-small, start-known, known-final, body-few, good-short}
 
 -- An accepted list is its own numbers, and its bytes are few enough to count.
 pub record Packs (p : Document) (list : List ℕ) : Type 0 where
   pub same : form (formOf p) readHead list ≡ Numbers list
   pub short : length (pack list) ≤ mostBytes
 
-counted-numbers : (o : Outcome) (k : ℕ) → Reply.Done k ≡ counted o → (xs : List ℕ) × (o ≡ Numbers xs)
-counted-numbers (Refusal w) k e = never cc
-counted-numbers (Numbers xs) k e = (xs, refl)
+whole-numbers : (o : Outcome) (k : ℕ) → Scanned.Whole k ≡ scanned o → (xs : List ℕ) × (o ≡ Numbers xs)
+whole-numbers (Refusal w) k e = never cc
+whole-numbers (Numbers xs) k e = (xs, refl)
 
 accepted-short : (p : Document) (xs : List ℕ) → Accepted (formOf p) xs → length (pack xs) ≤ mostBytes
 accepted-short p xs a =
     let k = known-final p start (take 3 xs) start-known (good-take (formOf p) start 3 xs (a .good)) in
     omega (arith, a .count, body-few p (final (formOf p) start (take 3 xs)) k, good-short p start xs (a .good))
 
-pub packs : (p : Document) (list : List ℕ) (k : ℕ) → Reply.Done k ≡ counted (form (formOf p) readHead list) → Packs p list
+pub packs : (p : Document) (list : List ℕ) (k : ℕ) → Scanned.Whole k ≡ scanned (form (formOf p) readHead list) → Packs p list
 packs p list k e =
-    let t = counted-numbers (form (formOf p) readHead list) k e in
+    let t = whole-numbers (form (formOf p) readHead list) k e in
     let l = packed-unpacks (formOf p) groups (lit< tt) (number-small p) list (t .0) (t .1) .0 in
     record {
       same = t .1 ∙ ap Numbers (sym l);
@@ -114,8 +116,8 @@ summing-ends list k total r h = omega (arith, rw (drop-of-length-le list h) at (
 abbrev pub Answers : List ℕ → Outcome → Reply → List ℕ → Type 0
 Answers lent o r out = Tells r (length lent) (packedAs o) × (out ≡ kept lent (packedAs o))
 
-pub pack-refused : (o : Outcome) (lent : List ℕ) (w : ℕ) → Reply.Refused w ≡ counted o → Answers lent o (Reply.Refused w) lent
-pack-refused (Refusal v) lent w e = (refuses _ v e, refl)
+pub pack-refused : (o : Outcome) (lent : List ℕ) (w : ℕ) → Scanned.Refused w ≡ scanned o → Answers lent o (Reply.Refused w) lent
+pack-refused (Refusal v) lent w e = let d : w ≡ v = cc in (refuses _ v (ap Reply.Refused d), refl)
 pack-refused (Numbers xs) lent w e = never cc
 
 pub pack-short : (p : Document) (list lent : List ℕ) → Packs p list → length lent < length (pack list) →

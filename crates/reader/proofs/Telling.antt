@@ -6,7 +6,7 @@ use lib.Dec.{leb}
 use lib.ListN.{length}
 use Rattle.reader.specs.declared.Reply.{Reply}
 use Rattle.checks.specs.Refusals.{noRoom}
-use Rattle.reader.specs.Walk.{Outcome, Refusal, Numbers}
+use Rattle.documents.specs.Walk.{Outcome, Refusal, Numbers}
 use Rattle.reader.specs.Values.{refusedWith, doneWith, replyValues, Refuses, Counts}
 use Rattle.reader.specs.Answer.{reply, replyOnPaper, Tells}
 

@@ -12,12 +12,12 @@ use lib.ListN.{length, getD}
 use Rattle.checks.specs.TicketFaults.{pairPasses}
 use Rattle.checks.proofs.FaultLaws.{amount-clear, cap-clear, cap-none}
 use Rattle.groups.specs.Groups.{pack}
-use Rattle.reader.specs.Walk.{Numbers, readHead, form}
-use Rattle.reader.specs.Layout.{ticket}
+use Rattle.documents.specs.Walk.{Numbers, readHead, form}
+use Rattle.documents.specs.Layout.{ticket}
 use Rattle.reader.specs.Answer.{unpacked, packed}
-use Rattle.reader.specs.Steps.{headPasses, PairsPass}
-use Rattle.reader.proofs.PairLaws.{Deal, faultless-deal}
-use Rattle.reader.proofs.Accepting.{passes-faultless, ticket-whole}
+use Rattle.passing.specs.Passes.{headPasses, PairsPass}
+use Rattle.documents.proofs.PairLaws.{Deal, faultless-deal}
+use Rattle.passing.proofs.Accepting.{passes-faultless, ticket-whole}
 use Rattle.reader.proofs.Facts.{unpacked-shape, unpacked-hours, DealAt, unpacked-deal, unpacked-none, packed-unpacked}
 
 -- The pair's first number stands at this place.

@@ -8,8 +8,8 @@ use lib.Seq.{sets}
 use Rattle.reader.specs.declared.Reply.{Reply}
 use Rattle.checks.specs.Refusals.{noRoom}
 use Rattle.groups.specs.Groups.{bytes, pack}
-use Rattle.reader.specs.Walk.{Outcome, Refusal, Numbers, readHead, form}
-use Rattle.reader.specs.Layout.{ticket, settlement}
+use Rattle.documents.specs.Walk.{Outcome, Refusal, Numbers, readHead, form}
+use Rattle.documents.specs.Layout.{ticket, settlement}
 use Rattle.reader.specs.Values.{Values, refusedWith, doneWith, Replied}
 
 -- A ticket's bytes as numbers.

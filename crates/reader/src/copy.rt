@@ -4,23 +4,29 @@ ghost use Prim.Native.Nat.{_+_, _≤_};
 ghost use lib.ListN.{length};
 ghost use lib.Seq.{sets};
 ghost use Rattle.groups.specs.Groups.{encode, bytes, pack};
-ghost use Rattle.reader.specs.Walk.{readHead, form};
-ghost use Rattle.reader.specs.Layout.{formOf};
+ghost use Rattle.documents.specs.Walk.{readHead, form};
+ghost use Rattle.documents.specs.Layout.{formOf};
+ghost use Rattle.scanning.specs.Runs.{scanned};
 ghost use Rattle.reader.specs.Steps.{mostBytes, firstNumbers, Fillable};
-ghost use Rattle.reader.specs.Answer.{packedAs, counted, Tells, kept};
+ghost use Rattle.reader.specs.Answer.{packedAs, Tells, kept};
 use crate::Reply;
-use crate::decode::decode;
-use crate::decode::room;
-use crate::passing::passes;
-use crate::scan::SourceKind;
-use crate::scan::scan;
 use checks::Document;
 use checks::NO_ROOM;
+use decoding::decode;
 use groups::Got;
 use groups::number;
 use groups::size;
 use numbers::front;
 use numbers::index;
+use passing::passes;
+use scanning::Scanned;
+use scanning::SourceKind;
+use scanning::scan;
+
+// Room for the numbers of as many bytes as the longest ticket has. A longer file is read number by number.
+fn room() -> [u16; 2083] {
+    [0; 2083]
+}
 
 // Writes the first numbers of bytes that were scanned to the front of a list.
 fn fill(s: &[u8], list: &mut [u16], count: usize)
@@ -85,8 +91,8 @@ fn receive_each(document: Document, s: &[u8], list: &mut [u16]) -> Reply
 {
     let seen = scan(document, SourceKind::Bytes, s, list);
     match seen {
-        Reply::Refused { why } => Reply::Refused { why },
-        Reply::Done { count } => {
+        Scanned::Refused { why } => Reply::Refused { why },
+        Scanned::Whole { count } => {
             if list.len() < count {
                 return Reply::Refused { why: NO_ROOM };
             }
@@ -124,11 +130,11 @@ pub(crate) fn receive(document: Document, s: &[u8], list: &mut [u16]) -> Reply
 }
 
 // What a scan of a list answers, at once where the list passes the quick test. `unread` stands for the bytes that a scan could read.
-fn scan_list(document: Document, list: &[u16], unread: &[u8]) -> Reply
-    ensures { λ r. ⌜ r ≡ counted (form (formOf document) readHead (now (list .entry))) ⌝ }
+fn scan_list(document: Document, list: &[u16], unread: &[u8]) -> Scanned
+    ensures { λ r. ⌜ r ≡ scanned (form (formOf document) readHead (now (list .entry))) ⌝ }
 {
     if passes(document, list) {
-        return Reply::Done { count: list.len() };
+        return Scanned::Whole { count: list.len() };
     }
     scan(document, SourceKind::List, unread, list)
 }
@@ -140,8 +146,8 @@ pub(crate) fn deliver(document: Document, list: &[u16], out: &mut [u8]) -> Reply
 {
     let seen = scan_list(document, list, out);
     match seen {
-        Reply::Refused { why } => Reply::Refused { why },
-        Reply::Done { count: _ } => {
+        Scanned::Refused { why } => Reply::Refused { why },
+        Scanned::Whole { count: _ } => {
             let written = size_all(list);
             if out.len() < written {
                 return Reply::Refused { why: NO_ROOM };

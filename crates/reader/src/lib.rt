@@ -5,12 +5,6 @@ ghost use lib.ListN.{length};
 ghost use Rattle.reader.specs.Answer.{unpacked, packed, settlementRead, settlementPacked, Tells, kept};
 
 mod copy; // copy.rt: the passes that write, after a scan that refused nothing
-mod decode; // decode.rt: bytes that are numbers and nothing else, decoded without branches
-mod layout; // layout.rt: the two documents behind one state: the fault of a number, the state after it, how many follow
-mod passing; // passing.rt: a quick test that a list is a document
-mod scan; // scan.rt: the walk over a whole document, which writes nothing
-mod settlement; // settlement.rt: the places of a settlement
-mod ticket; // ticket.rt: the places of a ticket
 
 use checks::Document;
 use copy::deliver;

@@ -21,7 +21,7 @@ use Rattle.market.proofs.Same.{sound-same}
 use Rattle.market.proofs.Gains.{nothing-blocks-iff}
 use Rattle.groups.specs.Groups.{pack}
 use Rattle.reader.specs.Answer.{settlementPacked}
-use Rattle.reader.proofs.SettlementLaws.{SettlementShape}
+use Rattle.documents.proofs.SettlementLaws.{SettlementShape}
 use Rattle.reader.proofs.Facts.{pair-below, settlement-accepted, settlement-bytes}
 use Rattle.tables.specs.View.{growersOf, pilotsOf, pairPlace, ticketOf, firstSixteen, settlementOf, settlementLength, settlementFront}
 use Rattle.settler.specs.Listing.{numberOf, Listed}

@@ -13,7 +13,7 @@ use lib.ListN.{getD, length, length-set}
 use lib.Seq.{length-sets, getD-set-same, getD-set-other}
 use Rattle.grid.proofs.Cases.{by-cell, eq-or-ne}
 use Rattle.offers.specs.declared.Terms.{Terms}
-use Rattle.reader.proofs.PairLaws.{Deal}
+use Rattle.documents.proofs.PairLaws.{Deal}
 use Rattle.reader.proofs.Facts.{DealAt}
 use Rattle.reader.proofs.TicketNumbers.{pairStart, Within, Passing, passes-deal}
 use Rattle.tables.specs.View.{growersOf, pilotsOf}

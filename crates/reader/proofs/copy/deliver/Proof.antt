@@ -2,8 +2,8 @@
 -- nothing.
 use mathlib.Core.Path.{sym, _∙_}
 use native.Mathlib.Omega.{arith}
-use Rattle.reader.specs.Walk.{readHead, form}
-use Rattle.reader.specs.Layout.{formOf}
+use Rattle.documents.specs.Walk.{readHead, form}
+use Rattle.documents.specs.Layout.{formOf}
 use Rattle.reader.proofs.Packing.{Packs, packs, pack-refused, pack-short, pack-done}
 use borrow.Author.Needs.{needs}
 use Rattle.reader.proofs.copy.deliver.Statement.{statement}

@@ -2,8 +2,8 @@
 -- nothing.
 use mathlib.Core.Path.{sym, _∙_}
 use Rattle.groups.specs.Groups.{bytes}
-use Rattle.reader.specs.Walk.{form}
-use Rattle.reader.specs.Layout.{formOf}
+use Rattle.documents.specs.Walk.{form}
+use Rattle.documents.specs.Layout.{formOf}
 use Rattle.reader.proofs.Filling.{scanned-fills, reply-refused, reply-short, reply-filled}
 use borrow.Author.Needs.{needs}
 use Rattle.reader.proofs.copy.receive_each.Statement.{statement}

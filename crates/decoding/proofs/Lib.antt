@@ -1,0 +1,2 @@
+-- The laws of `decoding`.
+pub mod Decoding

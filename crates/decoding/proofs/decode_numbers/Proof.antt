@@ -1,0 +1,55 @@
+-- `decoding::decode_numbers` meets its contract: the invariant is `Decoding`: the numbers that were met, and from where the rest is
+-- left. Assumes nothing.
+use borrow.Author.Needs.{needs}
+use Prim.Native.Nat.{_-_}
+use native.Mathlib.Omega.{arith}
+use lib.ListN.{length}
+use Rattle.decoding.proofs.Decoding.{Decoding, decoding-starts, decoding-turns, decoding-ends}
+use Rattle.decoding.proofs.decode_numbers.Statement.{statement}
+use Rattle.decoding.proofs.decode_numbers.Tie as tie
+
+abbrev Inv-loop : tie.InvT-loop
+Inv-loop s list₀ count₀ prior₀ i₀ i-end list count prior i = Decoding s list₀ list i count prior
+
+abbrev μ-loop : tie.MeasureT-loop
+μ-loop s list₀ count₀ prior₀ i₀ i-end list count prior i = length s - i
+
+loop-holds : tie.Need-loop-holds Inv-loop μ-loop
+loop-holds c = decoding-starts _ _
+
+loop-again : tie.Need-loop-again Inv-loop μ-loop
+loop-again c =
+    let start = c .before .before .before .before .before .before .before .before in
+    let b = c .before .before .wide in
+    rw (c .ended .ensures)
+    (decoding-turns (c .before .before .before .before .before .loop .inv) (b .result) (c .before .joined .result) (start .pre .0)
+    (omega arith) (start .pre .1) (b .ensures .0) (b .ensures .1) (c .before .joined .ensures))
+
+same-length : tie.Need-same-length Inv-loop μ-loop
+same-length c = c .before .loop .inv .long
+
+returns : tie.Need-returns Inv-loop μ-loop
+returns c =
+    let i = c .before .loop .inv in
+    let pre = c .before .before .before .before .pre in
+    (omega (arith, i .few, i .within, i .long, pre .1), decoding-ends i (pre .0) (omega arith))
+
+pub decode-numbers-spec : {M : Type 1} → statement M
+decode-numbers-spec =
+    tie.close
+    (tie.spec
+    Inv-loop
+    μ-loop
+    loop-holds
+    (λ c. search needs)
+    (λ c κs. search needs)
+    (λ c κs. search needs)
+    (λ c. search needs)
+    (λ c. search needs)
+    (λ c κs. search needs)
+    (λ c. search needs)
+    (λ c. search needs)
+    (λ c. search needs)
+    loop-again
+    same-length
+    returns)

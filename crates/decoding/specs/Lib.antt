@@ -1,0 +1,2 @@
+-- The definitions that the private functions of `decoding` cite.
+pub mod Numbered

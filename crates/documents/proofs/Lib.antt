@@ -1,0 +1,8 @@
+-- The laws of documents, each file over those above it.
+pub mod Tests
+pub mod WalkLaws
+pub mod Undoing
+pub mod TicketLaws
+pub mod PairLaws
+pub mod SettlementLaws
+pub mod LayoutLaws

@@ -1,0 +1,2 @@
+-- What passes is a document.
+pub mod Accepting

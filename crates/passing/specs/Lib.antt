@@ -1,0 +1,2 @@
+-- The definitions that the private functions of `passing` cite.
+pub mod Passes

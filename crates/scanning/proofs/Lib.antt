@@ -1,0 +1,2 @@
+-- The laws of `scanning`.
+pub mod Running

@@ -1,0 +1,2 @@
+-- The definitions that the contracts of `scanning` cite.
+pub mod Runs
