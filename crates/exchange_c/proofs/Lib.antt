@@ -1,5 +1,4 @@
 -- The laws of the numbers that C gets: they fit, and nothing is lost in them.
 pub mod ReplyLaws
 pub mod MarketLaws
-pub mod MarkLaws
 pub mod AccountLaws

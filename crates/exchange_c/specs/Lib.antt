@@ -1,4 +1,2 @@
 -- The definitions that the contracts of `exchange_c` cite: the numbers that C gets.
 pub mod Replies
-pub mod Marks
-pub mod Accounts

@@ -1,7 +1,5 @@
 // The exchange for programs in C: the proved operations under plain names, each answering one number.
 // A slice is a pointer and a length to C. `include/hours_exchange.h` declares these functions.
-mod lending;
-mod marks;
 mod replies;
 
 ghost use mathlib.Core.Path.{_≡_};
@@ -13,11 +11,7 @@ ghost use Rattle.sheets.specs.Sheeted.{Sheeted};
 ghost use Rattle.accounts.specs.Accounted.{accountOutcome};
 ghost use Rattle.market_lists.specs.Lent.{OpenedIn, CalledIn, WrittenFrom};
 ghost use Rattle.exchange_c.specs.Replies.{replyNumber, NumberOf};
-ghost use Rattle.exchange_c.specs.Marks.{markNumber, worthNumber};
-use lending::lend;
-use marks::mark_number;
-use marks::marked_values;
-use marks::worth_number;
+ghost use Rattle.c_answers.specs.Marks.{markNumber, worthNumber};
 use replies::reply_number;
 
 // `reader::unpack`: the count of a ticket's numbers, or a refusal.
@@ -59,7 +53,7 @@ pub extern "C" fn exchange_sheet(ticket: &[u8], text: &mut [u8]) -> u32
 pub extern "C" fn exchange_mark(ticket: &[u8], settlement: &[u8]) -> u64
     ensures { λ r. ⌜ r ≡ markNumber (markedValues (now (ticket .entry)) (now (settlement .entry))) ⌝ }
 {
-    mark_number(marked_values(ticket, settlement))
+    c_answers::mark_number(ticket, settlement)
 }
 
 // `marker::mark`: the worth that is given with the verdict on a settlement, or a refusal.
@@ -67,7 +61,7 @@ pub extern "C" fn exchange_mark(ticket: &[u8], settlement: &[u8]) -> u64
 pub extern "C" fn exchange_worth(ticket: &[u8], settlement: &[u8]) -> u64
     ensures { λ r. ⌜ r ≡ worthNumber (markedValues (now (ticket .entry)) (now (settlement .entry))) ⌝ }
 {
-    worth_number(marked_values(ticket, settlement))
+    c_answers::worth_number(ticket, settlement)
 }
 
 // `accounts::account`: how many numbers the account of a settlement lists, or a refusal; 10, the list is too short, comes last.
@@ -76,8 +70,7 @@ pub extern "C" fn exchange_account(ticket: &[u8], settlement: &[u8], list: &mut 
     ensures { λ r. ⌜ r ≡ replyNumber (reply (length (now (list .entry))) (accountOutcome (now (ticket .entry)) (now (settlement .entry)))) ⌝ }
     ensures { λ _. ⌜ now (list .exit) ≡ kept (now (list .entry)) (accountOutcome (now (ticket .entry)) (now (settlement .entry))) ⌝ }
 {
-    let account = accounts::account(ticket, settlement);
-    reply_number(lend(account, list))
+    reply_number(c_answers::lend_account(ticket, settlement, list))
 }
 
 // `market_lists::open`: how many numbers a market has in a list, or a refusal; 10, the list is too short, comes last.

@@ -8,7 +8,7 @@ use Rattle.verdicts.specs.Values.{Bounded}
 use Rattle.marker.specs.Marked.{markedValues}
 use Rattle.marker.proofs.DealNumbers.{number-small}
 use Rattle.marker.proofs.ValueBounds.{marked-bounded, worth-bounded}
-use Rattle.exchange_c.specs.Marks.{markNumber, Tells, worthEnd, worthNumber, TellsWorth}
+use Rattle.c_answers.specs.Marks.{markNumber, Tells, worthEnd, worthNumber, TellsWorth}
 
 -- Small values are told by their number.
 number-tells : (v : Values) → Bounded v → Tells (markNumber v) v

@@ -4,7 +4,8 @@ ghost use Prim.Native.Nat.{_≤_};
 ghost use lib.ListN.{length, take};
 ghost use lib.Seq.{sets};
 ghost use Rattle.reader.specs.Answer.{reply, kept};
-ghost use Rattle.exchange_c.specs.Accounts.{outcomeOf, Fitting};
+ghost use Rattle.accounts.specs.Accounted.{accountOutcome};
+ghost use Rattle.c_answers.specs.Accounts.{outcomeOf, Fitting};
 use accounts::Account;
 use reader::NO_ROOM;
 use reader::Reply;
@@ -20,7 +21,7 @@ fn copy_front(list: &mut [u32], from: [u32; 48], count: usize)
 }
 
 // Copies what an account lists into a list, unless that is too short: the last refusal.
-pub(crate) fn lend(account: Account, list: &mut [u32]) -> Reply
+fn lend(account: Account, list: &mut [u32]) -> Reply
     requires { ⌜ Fitting (account .reply) ⌝ }
     ensures { λ r. ⌜ (r ≡ reply (length (now (list .entry))) (outcomeOf account)) × (now (list .exit) ≡ kept (now (list .entry)) (outcomeOf account)) ⌝ }
 {
@@ -36,4 +37,13 @@ pub(crate) fn lend(account: Account, list: &mut [u32]) -> Reply
             Reply::Done { count }
         }
     }
+}
+
+// The account of a settlement of a ticket, copied into a list.
+pub fn lend_account(ticket: &[u8], settlement: &[u8], list: &mut [u32]) -> Reply
+    ensures { λ r. ⌜ r ≡ reply (length (now (list .entry))) (accountOutcome (now (ticket .entry)) (now (settlement .entry))) ⌝ }
+    ensures { λ _. ⌜ now (list .exit) ≡ kept (now (list .entry)) (accountOutcome (now (ticket .entry)) (now (settlement .entry))) ⌝ }
+{
+    let account = accounts::account(ticket, settlement);
+    lend(account, list)
 }

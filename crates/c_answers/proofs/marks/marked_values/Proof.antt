@@ -1,9 +1,9 @@
--- `exchange_c::marks::marked_values` meets its contract: the values of the marker's verdict.
+-- `c_answers::marks::marked_values` meets its contract: the values of the marker's verdict.
 -- Assumes nothing.
 use mathlib.Core.Path.{_∙_}
 use borrow.Author.Needs.{needs}
-use Rattle.exchange_c.proofs.marks.marked_values.Statement.{statement}
-use Rattle.exchange_c.proofs.marks.marked_values.Tie as tie
+use Rattle.c_answers.proofs.marks.marked_values.Statement.{statement}
+use Rattle.c_answers.proofs.marks.marked_values.Tie as tie
 
 returns : tie.Need-returns
 returns c = c .values-of .ensures ∙ c .before .mark .ensures .1

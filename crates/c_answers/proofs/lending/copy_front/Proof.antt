@@ -1,4 +1,4 @@
--- `exchange_c::lending::copy_front` meets its contract: after k turns the first k numbers are written.
+-- `c_answers::lending::copy_front` meets its contract: after k turns the first k numbers are written.
 -- Assumes nothing.
 use mathlib.Core.Path.{_≡_, refl, ap, _∙_}
 use Prim.Native.Nat.{ℕ, _-_, _≤_}
@@ -8,8 +8,8 @@ use lib.Seq.{sets}
 use borrow.Author.Needs.{needs}
 use Rattle.bytes.specs.Writing.{Wrote}
 use Rattle.bytes.proofs.PageWriting.{wrote-nothing, wrote-more}
-use Rattle.exchange_c.proofs.lending.copy_front.Statement.{statement}
-use Rattle.exchange_c.proofs.lending.copy_front.Tie as tie
+use Rattle.c_answers.proofs.lending.copy_front.Statement.{statement}
+use Rattle.c_answers.proofs.lending.copy_front.Tie as tie
 
 abbrev Inv-loop : tie.InvT-loop
 Inv-loop list₀ count from k₀ list k = (k ≤ count) × (length list ≡ length list₀) × (length from ≡ 48) × Wrote list₀ list 0 k (take k from)

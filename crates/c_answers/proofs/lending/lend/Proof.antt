@@ -1,11 +1,11 @@
--- `exchange_c::lending::lend` meets its contract: a refusal is passed on, a list that is too short is left alone, or all is copied.
+-- `c_answers::lending::lend` meets its contract: a refusal is passed on, a list that is too short is left alone, or all is copied.
 -- Assumes nothing.
 use Prim.Native.Nat.{_≤_}
 use native.Mathlib.Omega.{arith}
 use borrow.Author.Needs.{needs}
-use Rattle.exchange_c.proofs.AccountLaws.{refused-lent, too-short, lent-whole, fits-count}
-use Rattle.exchange_c.proofs.lending.lend.Statement.{statement}
-use Rattle.exchange_c.proofs.lending.lend.Tie as tie
+use Rattle.c_answers.proofs.AccountLaws.{refused-lent, too-short, lent-whole, fits-count}
+use Rattle.c_answers.proofs.lending.lend.Statement.{statement}
+use Rattle.c_answers.proofs.lending.lend.Tie as tie
 
 -- an account that lists numbers
 few : (c : tie.After-told2) → c .told2 .given .0 .0 ≤ 48

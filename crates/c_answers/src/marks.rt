@@ -4,7 +4,7 @@ ghost use Prim.Native.Nat.{_<_};
 ghost use Rattle.verdicts.specs.Values.{Bounded};
 ghost use Rattle.marker.specs.Marked.{markedValues};
 ghost use Rattle.marker.specs.Verdict.{dealNumber};
-ghost use Rattle.exchange_c.specs.Marks.{markNumber, worthNumber, worthEnd};
+ghost use Rattle.c_answers.specs.Marks.{markNumber, worthNumber, worthEnd};
 use market::Deal;
 use verdicts::Values;
 
@@ -29,13 +29,14 @@ fn deal_number(deal: Deal) -> u64
 }
 
 // The values of the verdict on a settlement of a ticket.
-pub(crate) fn marked_values(ticket: &[u8], settlement: &[u8]) -> Values
+fn marked_values(ticket: &[u8], settlement: &[u8]) -> Values
     ensures { λ r. ⌜ r ≡ markedValues (now (ticket .entry)) (now (settlement .entry)) ⌝ }
 {
     verdicts::values_of(marker::mark(ticket, settlement))
 }
 
-pub(crate) fn mark_number(values: Values) -> u64
+// The values of a verdict side by side.
+fn values_number(values: Values) -> u64
     requires { ⌜ Bounded values ⌝ }
     ensures { λ r. ⌜ r ≡ markNumber values ⌝ }
 {
@@ -46,9 +47,24 @@ pub(crate) fn mark_number(values: Values) -> u64
     answer + places + values.count as u64 * COUNT
 }
 
-pub(crate) fn worth_number(values: Values) -> u64
+// The refusal above the worth.
+fn values_worth(values: Values) -> u64
     requires { ⌜ values .worth < worthEnd ⌝ }
     ensures { λ r. ⌜ r ≡ worthNumber values ⌝ }
 {
     values.worth + values.refusal as u64 * REFUSAL
+}
+
+// The number of the verdict on a settlement of a ticket.
+pub fn mark_number(ticket: &[u8], settlement: &[u8]) -> u64
+    ensures { λ r. ⌜ r ≡ markNumber (markedValues (now (ticket .entry)) (now (settlement .entry))) ⌝ }
+{
+    values_number(marked_values(ticket, settlement))
+}
+
+// The number of the worth that is given with it.
+pub fn worth_number(ticket: &[u8], settlement: &[u8]) -> u64
+    ensures { λ r. ⌜ r ≡ worthNumber (markedValues (now (ticket .entry)) (now (settlement .entry))) ⌝ }
+{
+    values_worth(marked_values(ticket, settlement))
 }
