@@ -1,4 +1,3 @@
-pub mod EveryLaws
 pub mod LeastLaws
 pub mod Tests
 pub mod Soundness

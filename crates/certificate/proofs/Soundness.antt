@@ -11,8 +11,9 @@ use Rattle.market.specs.Market.{Ticket, Settlement, Fits, GrowerHasFreeHour, Pi
 use Rattle.market.specs.Market.{cap, earnedByGrower, earnedByPilot}
 use Rattle.market.specs.Certificate.{Certificate}
 use Rattle.market.proofs.Certificate.{certificate-sound}
-use Rattle.certificate.specs.Certified.{every, grower, pilot, growerFits, pilotFits, kept, certified}
-use Rattle.certificate.proofs.EveryLaws.{both, every-at}
+use Rattle.grid.specs.Every.{every}
+use Rattle.certificate.specs.Certified.{grower, pilot, growerFits, pilotFits, kept, certified}
+use Rattle.grid.proofs.EveryLaws.{both-hold, every-at}
 use Rattle.certificate.proofs.LeastLaws.{party-free-hour, party-tariff, party-free}
 use Rattle.certificate.proofs.Tests.{Kept, kept-true}
 
@@ -25,9 +26,9 @@ module _ (t : Ticket) (x : Settlement) (yes : certified t x ≡ true) where
   parts : (every (growerFits t x) (t .growers) ≡ true) × (every (pilotFits t x) (t .pilots) ≡ true) ×
       (every (λ i. every (kept t x i) (t .pilots)) (t .growers) ≡ true)
   parts =
-      let e₁ = both (every (growerFits t x) (t .growers) && every (pilotFits t x) (t .pilots))
+      let e₁ = both-hold (every (growerFits t x) (t .growers) && every (pilotFits t x) (t .pilots))
       (every (λ i. every (kept t x i) (t .pilots)) (t .growers)) yes in
-      let e₂ = both (every (growerFits t x) (t .growers)) (every (pilotFits t x) (t .pilots)) (e₁ .0) in
+      let e₂ = both-hold (every (growerFits t x) (t .growers)) (every (pilotFits t x) (t .pilots)) (e₁ .0) in
       (e₂ .0, e₂ .1, e₁ .1)
 
   pair : (i j : ℕ) → i < t .growers → j < t .pilots → KeptAt i j

@@ -14,9 +14,10 @@ use Rattle.market.specs.Market.{Ticket, Settlement}
 use Rattle.market.specs.Tables.{ticketIn, settlementIn}
 use Rattle.certificate.specs.declared.Party.{Party}
 use Rattle.certificate.specs.declared.Side.{Side}
-use Rattle.certificate.specs.Certified.{every, pairKept, grower, pilot, pilotFits, kept, certified}
+use Rattle.grid.specs.Every.{every}
+use Rattle.certificate.specs.Certified.{pairKept, grower, pilot, pilotFits, kept, certified}
 use Rattle.certificate.specs.Rows.{partyOn, IsSide, rowKept, sidesKept}
-use Rattle.certificate.proofs.EveryLaws.{every-same}
+use Rattle.grid.proofs.EveryLaws.{every-same}
 use Rattle.certificate.proofs.LeastLaws.{party-same}
 
 -- a square on its side

@@ -10,7 +10,7 @@ use borrow.Author.Tests.{leb-true, ltb-true, eqb-true, le-leb, lt-leb}
 use Rattle.grid.proofs.Cases.{never, lt-or-le}
 use Rattle.certificate.specs.declared.Party.{Party}
 use Rattle.certificate.specs.Certified.{feasible, worthwhile, oneFull, tariffKept, freeKept, pairKept}
-use Rattle.certificate.proofs.EveryLaws.{both}
+use Rattle.grid.proofs.EveryLaws.{both-hold}
 
 either : (a b : Bool) → (a || b) ≡ true → (a ≡ true) ⊎ (b ≡ true)
 either true b e = inl refl
@@ -63,9 +63,9 @@ module _ (g p : Party) (tariffCap tariffGain tariffPay freeCap jointGain tariffH
       (freeDealHours ≡ 0 → pay ≡ 0)
   possible-true e =
       let nothing = ltb 0 freeDealHours || eqb pay 0 in
-      let e₁ = both (leb tariffHours tariffCap && leb freeDealHours freeCap) (leb pay jointGain && nothing) e in
-      let caps = both (leb tariffHours tariffCap) (leb freeDealHours freeCap) (e₁ .0) in
-      let pays = both (leb pay jointGain) nothing (e₁ .1) in (
+      let e₁ = both-hold (leb tariffHours tariffCap && leb freeDealHours freeCap) (leb pay jointGain && nothing) e in
+      let caps = both-hold (leb tariffHours tariffCap) (leb freeDealHours freeCap) (e₁ .0) in
+      let pays = both-hold (leb pay jointGain) nothing (e₁ .1) in (
         leb-true _ _ (caps .0),
         leb-true _ _ (caps .1),
         leb-true _ _ (pays .0),
@@ -78,10 +78,10 @@ module _ (g p : Party) (tariffCap tariffGain tariffPay freeCap jointGain tariffH
   earns-true e =
       let tariffs = leb (g .standby) tariffGain && leb (p .standby) tariffPay in
       let shares = leb (g .standby) (jointGain - pay) && leb (p .standby) pay in
-      let e₁ = both (eqb tariffHours 0 || tariffs) (eqb freeDealHours 0 || shares) e in (
-        λ h. let q = both (leb (g .standby) tariffGain) (leb (p .standby) tariffPay) (flown tariffHours tariffs (e₁ .0) h) in
+      let e₁ = both-hold (eqb tariffHours 0 || tariffs) (eqb freeDealHours 0 || shares) e in (
+        λ h. let q = both-hold (leb (g .standby) tariffGain) (leb (p .standby) tariffPay) (flown tariffHours tariffs (e₁ .0) h) in
             (leb-true _ _ (q .0), leb-true _ _ (q .1)),
-        λ h. let q = both (leb (g .standby) (jointGain - pay)) (leb (p .standby) pay) (flown freeDealHours shares (e₁ .1) h) in
+        λ h. let q = both-hold (leb (g .standby) (jointGain - pay)) (leb (p .standby) pay) (flown freeDealHours shares (e₁ .1) h) in
             (leb-true _ _ (q .0), leb-true _ _ (q .1)),
       )
 
@@ -89,20 +89,20 @@ module _ (g p : Party) (tariffCap tariffGain tariffPay freeCap jointGain tariffH
   tariff-true : by-tariff ≡ true → tariffHours < tariffCap →
       ((oneFull g p || (ltb tariffGain (g .standby) || ltb tariffPay (p .standby))) ≡ true) ×
       ((leb tariffGain (g .least) || leb tariffPay (p .least)) ≡ true)
-  tariff-true e h = both (oneFull g p || (ltb tariffGain (g .standby) || ltb tariffPay (p .standby)))
+  tariff-true e h = both-hold (oneFull g p || (ltb tariffGain (g .standby) || ltb tariffPay (p .standby)))
       (leb tariffGain (g .least) || leb tariffPay (p .least)) (unfilled tariffCap tariffHours _ e h)
 
   free-true : by-free ≡ true → freeDealHours < freeCap →
       ((oneFull g p || not (leb (g .standby + p .standby) jointGain)) ≡ true) × (leb jointGain (g .least + p .least) ≡ true)
-  free-true e h = both (oneFull g p || not (leb (g .standby + p .standby) jointGain)) (leb jointGain (g .least + p .least))
+  free-true e h = both-hold (oneFull g p || not (leb (g .standby + p .standby) jointGain)) (leb jointGain (g .least + p .least))
       (unfilled freeCap freeDealHours _ e h)
 
   pub kept-true : pairKept g p tariffCap tariffGain tariffPay freeCap jointGain tariffHours freeDealHours pay ≡ true →
       Kept g p tariffCap tariffGain tariffPay freeCap jointGain tariffHours freeDealHours pay
   kept-true e =
-      let e₁ = both (possible && earns && by-tariff) by-free e in
-      let e₂ = both (possible && earns) by-tariff (e₁ .0) in
-      let e₃ = both possible earns (e₂ .0) in
+      let e₁ = both-hold (possible && earns && by-tariff) by-free e in
+      let e₂ = both-hold (possible && earns) by-tariff (e₁ .0) in
+      let e₃ = both-hold possible earns (e₂ .0) in
       let possibles = possible-true (e₃ .0) in
       let earning = earns-true (e₃ .1) in
       let tariffs = tariff-true (e₂ .1) in

@@ -2,18 +2,14 @@
 -- a deal's own hours count among those of its parties. Everywhere g and i are growers, p and j pilots.
 -- Assumes nothing.
 use Prim.Native.Nat.{ℕ, zero, suc, _+_, _-_, min}
-use mathlib.Core.Bool.{Bool, true, not, _&&_, _||_}
+use mathlib.Core.Bool.{Bool, not, _&&_, _||_}
 use lib.Dec.{leb, ltb, eqb}
+use Rattle.grid.specs.Every.{every}
 use Rattle.grid.specs.Pick.{pick}
 use Rattle.grid.specs.Sum.{sum}
 use Rattle.market.specs.declared.Deal.the-variants.{Tariff, Free}
 use Rattle.market.specs.Market.{Ticket, Settlement, usedByGrower, usedByPilot}
 use Rattle.certificate.specs.declared.Party.{Party}
-
--- a test holds at every place below k
-unfoldable pub every : (ℕ → Bool) → ℕ → Bool
-every f zero = true
-every f (suc k) = every f k && f k
 
 -- Parties.
 

@@ -10,7 +10,8 @@ use Rattle.grid.specs.Sum.{sum}
 use Rattle.grid.specs.Grid.{Grid, at}
 use Rattle.certificate.specs.declared.Party.{Party}
 use Rattle.certificate.specs.declared.Side.{Side}
-use Rattle.certificate.specs.Certified.{every, leastEarned, partyOf, pairKept}
+use Rattle.grid.specs.Every.{every}
+use Rattle.certificate.specs.Certified.{leastEarned, partyOf, pairKept}
 
 -- a row of numbers
 abbrev pub line : List ℕ → ℕ → ℕ

@@ -1,12 +1,13 @@
 -- Bytes that are numbers and nothing else, decoded a byte at each turn: where a byte that another follows was met last, its number begins
 -- there.
 use mathlib.Core.Path.{_≡_, refl, ap, _∙_}
-use mathlib.Core.Bool.{true}
+use mathlib.Core.Bool.{Bool, true, _&&_}
 use mathlib.Core.Logic.{⊎-elim}
 use mathlib.Core.List.{List, [], _∷_}
 use Prim.Native.Nat.{ℕ, zero, suc, _+_, _-_, _*_, _/_, _%_, _≤_, _<_}
 use native.Mathlib.Numerals.{add-one}
 use native.Mathlib.Omega.{arith}
+use borrow.Author.Count.{below-more}
 use borrow.Author.Tests.{lt-ltb, le-ltb, ltb-true}
 use lib.Dec.{ltb}
 use lib.ListN.{length, getD, set, take, drop, length-set, drop-of-length-le}
@@ -17,7 +18,12 @@ use Rattle.groups.proofs.GroupLaws.{read-last, read-more}
 use Rattle.documents.specs.Walk.{Gives}
 use Rattle.decoding.specs.Numbered.{follows, ended, joined, Numbered}
 use Rattle.documents.proofs.WalkLaws.{gives-append}
-use Rattle.documents.proofs.Tests.{both-hold}
+use Rattle.grid.proofs.EveryLaws.{both-hold}
+
+-- One turn more of a loop that tests whether P holds of every number below k.
+pub all-more : (P : ℕ → Type 0) (k : ℕ) (pass b : Bool) → (pass ≡ true → (p : ℕ) → p < k → P p) → (b ≡ true → P k) →
+    (pass && b) ≡ true → (p : ℕ) → p < k + 1 → P p
+all-more P k pass b before here e = let t = both-hold pass b e in below-more P k (before (t .0)) (here (t .1))
 
 -- A number of one byte, and of two.
 one-read : (b : ℕ) (rest : List ℕ) → b < 128 → bytes (b ∷ rest) ≡ Number b rest

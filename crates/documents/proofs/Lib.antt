@@ -1,5 +1,4 @@
 -- The laws of documents, each file over those above it.
-pub mod Tests
 pub mod WalkLaws
 pub mod Undoing
 pub mod TicketLaws

@@ -22,7 +22,7 @@ use Rattle.reader.specs.Answer.{packed, reply, Tells, kept}
 use Rattle.documents.proofs.WalkLaws.{Good, Accepted, accepts-form}
 use Rattle.documents.proofs.Undoing.{head-whole}
 use Rattle.reader.proofs.Telling.{tells, refuses}
-use Rattle.documents.proofs.Tests.{both-hold}
+use Rattle.grid.proofs.EveryLaws.{both-hold}
 use Rattle.reader.proofs.Facts.{reply-with-room, reply-without-room, kept-without-room}
 use Rattle.documents.proofs.TicketLaws.{Stands, place-after, deal-place}
 use Rattle.draws.specs.Generator as generator

@@ -2,6 +2,7 @@ pub mod Cases
 pub mod Sums
 pub mod Squares
 pub mod ZeroSquares
+pub mod EveryLaws
 pub mod FirstPlaces
 pub mod Places
 pub mod Filling

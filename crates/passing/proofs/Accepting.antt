@@ -1,15 +1,16 @@
 -- The quick test of a list: what passes it is a document, whole.
 use mathlib.Core.Path.{_≡_, refl, _∙_}
-use mathlib.Core.Bool.{Bool, true, false}
+use mathlib.Core.Bool.{Bool, true, false, _||_, _&&_}
 use mathlib.Core.Logic.{⊎-elim}
 use mathlib.Core.List.{List, [], _∷_}
-use Prim.Native.Nat.{ℕ, zero, suc, _+_, _*_, _-_, _/_, _%_, _≤_, _<_}
+use Prim.Native.Nat.{ℕ, zero, suc, _+_, _*_, _-_, _/_, _%_, _^_, _≤_, _<_}
 use native.Mathlib.Nat.{div-add-mod'}
 use native.Mathlib.Omega.{arith}
-use borrow.Author.Tests.{eqb-true, lt-ltb}
-use lib.Dec.{eqb, lit<}
+use borrow.Author.Tests.{eqb-true, ltb-true, lt-ltb}
+use lib.Dec.{leb, eqb, lit<}
 use lib.ListN.{length, getD, take, drop, drop-of-length-le, List·getD-eq-default}
 use lib.Seq.{drop-cons, length-take-le}
+use Rattle.checks.specs.declared.refusals.Document.{Document}
 use Rattle.checks.specs.declared.ticket.Field.the-variants.{Kind, Growers, Pilots, Hours}
 use Rattle.checks.specs.Refusals.{settlementRefusals}
 use Rattle.checks.specs.Hours.{notedAll, noneOf, noneIn}
@@ -17,19 +18,41 @@ use Rattle.checks.specs.TicketFaults.{capFault, amountFault, pairPasses, faultO
 use Rattle.checks.specs.SettlementFaults.{settlementFault}
 use Rattle.checks.proofs.FaultLaws.{must-holds, party-range, settlement-passes}
 use Rattle.checks.proofs.HourLaws.{none-noted, none-taken}
+use Rattle.groups.specs.Groups.{groups}
 use Rattle.grid.proofs.Cases.{lt-or-le}
+use Rattle.grid.proofs.EveryLaws.{both-hold, every-at}
 use Rattle.grid.proofs.Places.{inside}
 use Rattle.documents.specs.declared.State.{State}
 use Rattle.documents.specs.Walk.{Numbers, readHead, form}
 use Rattle.documents.specs.State.{start}
-use Rattle.documents.specs.Layout.{ticket, settlement}
-use Rattle.passing.specs.Passes.{headPasses, HoursPass, PairsPass, AllFit}
-use Rattle.documents.proofs.Tests.{both-hold}
+use Rattle.documents.specs.Layout.{formOf, ticket, settlement}
+use Rattle.passing.specs.Passes.{headPasses, hoursPass, pairPassesAt, pairsPass, ticketPasses, allFit, settlementPasses, passesAs}
 use Rattle.documents.proofs.WalkLaws.{Good, accepts-form}
 use Rattle.documents.proofs.Undoing.{head-whole}
 use Rattle.documents.proofs.TicketLaws.{Stands, place-after, deal-place}
 use Rattle.documents.proofs.PairLaws.{Faultless, five}
 use Rattle.documents.proofs.SettlementLaws.{settlement-accepts}
+
+-- What passes at every place, said of each place: everybody's hours, all pairs, and all numbers of a settlement.
+abbrev pub HoursPass : List ℕ → ℕ → Type 0
+HoursPass list k = (p : ℕ) → p < k → faultOf Hours 0 false (getD list (3 + p) 0) ≡ 0
+
+abbrev pub PairsPass : List ℕ → ℕ → ℕ → Type 0
+PairsPass list n m =
+    (i : ℕ) → i < n → (j : ℕ) → j < m →
+    pairPassesAt (eqb (getD list (3 + i) 0) 0 || eqb (getD list (3 + n + j) 0) 0) list (3 + n + m + 5 * (i * m) + 5 * j) ≡ true
+
+abbrev AllFit : List ℕ → Type 0
+AllFit list = (k : ℕ) → k < length list → getD list k 0 < 128 ^ groups
+
+hours-pass : (list : List ℕ) (k : ℕ) → hoursPass list k ≡ true → HoursPass list k
+hours-pass list k e p h = eqb-true _ 0 (every-at _ k p e h)
+
+pairs-pass : (list : List ℕ) (n m : ℕ) → pairsPass list n m ≡ true → PairsPass list n m
+pairs-pass list n m e i hi j hj = every-at _ m j (every-at _ n i e hi) hj
+
+all-fit : (list : List ℕ) → allFit list ≡ true → AllFit list
+all-fit list e k h = ltb-true _ _ (every-at _ (length list) k e h)
 
 -- No number of a pair that passes has a fault.
 pub passes-faultless : (none : Bool) (a b c d e : ℕ) → pairPasses none a b c d e ≡ true → Faultless none a b c d e
@@ -183,7 +206,7 @@ all-fit-small : (list : List ℕ) → AllFit list → (i : ℕ) → getD list i 
 all-fit-small list fit i =
     ⊎-elim (λ h. fit i h) (λ h. rw (List·getD-eq-default list 0 {n = i} h) (lit< tt)) (lt-or-le i (length list))
 
-pub settlement-whole : (n m : ℕ) (list : List ℕ) → length list ≡ 3 + 3 * (n * m) → settlementFault n m 0 (getD list 0 0) ≡ 0 →
+settlement-whole : (n m : ℕ) (list : List ℕ) → length list ≡ 3 + 3 * (n * m) → settlementFault n m 0 (getD list 0 0) ≡ 0 →
     settlementFault n m 1 (getD list 1 0) ≡ 0 → settlementFault n m 2 (getD list 2 0) ≡ 0 → AllFit list →
     form (settlement n m) readHead list ≡ Numbers list
 settlement-whole n m list l kind growers pilots fit =
@@ -197,3 +220,27 @@ settlement-whole n m list l kind growers pilots fit =
       small = all-fit-small list fit;
     }))
     (head-whole list)
+
+-- A list that passes is a document, whole.
+pub passes-whole : (document : Document) (list : List ℕ) → passesAs document list ≡ true → form (formOf document) readHead list ≡ Numbers list
+passes-whole Document.Ticket list e =
+    let n = getD list 1 0 in
+    let m = getD list 2 0 in
+    let all = both-hold (eqb (length list) (3 + n + m + 5 * (n * m)) && headPasses (getD list 0 0) n m)
+    (hoursPass list (n + m) && pairsPass list n m) e in
+    let start = both-hold (eqb (length list) (3 + n + m + 5 * (n * m))) (headPasses (getD list 0 0) n m) (all .0) in
+    let body = both-hold (hoursPass list (n + m)) (pairsPass list n m) (all .1) in
+    ticket-whole list _ _ _ refl refl refl (start .1) (eqb-true _ _ (start .0)) (hours-pass list (n + m) (body .0))
+    (pairs-pass list n m (body .1))
+passes-whole (Document.Settlement n m) list e =
+    let kind = eqb (settlementFault n m 0 (getD list 0 0)) 0 in
+    let growers = eqb (settlementFault n m 1 (getD list 1 0)) 0 in
+    let pilots = eqb (settlementFault n m 2 (getD list 2 0)) 0 in
+    let count = eqb (length list) (3 + 3 * (n * m)) in
+    let all = both-hold (leb n 16 && leb m 16 && count) (kind && growers && pilots && allFit list) e in
+    let start = both-hold (leb n 16 && leb m 16) count (all .0) in
+    let t₂ = both-hold (kind && growers && pilots) (allFit list) (all .1) in
+    let t₁ = both-hold (kind && growers) pilots (t₂ .0) in
+    let t₀ = both-hold kind growers (t₁ .0) in
+    settlement-whole n m list (eqb-true _ _ (start .1)) (eqb-true _ 0 (t₀ .0)) (eqb-true _ 0 (t₀ .1)) (eqb-true _ 0 (t₁ .1))
+    (all-fit list (t₂ .1))

@@ -1,2 +1,3 @@
--- What passes is a document.
+-- What passes is a document; what the test answers.
 pub mod Accepting
+pub mod Answers

@@ -1,2 +1,2 @@
--- The definitions that the private functions of `passing` cite.
+-- The definitions that the functions of `passing` cite.
 pub mod Passes

@@ -1,12 +1,10 @@
 // Whether a list is a document, whole: a quick test that finds no refusal, with no branch that depends on the numbers of a pair. A list
 // that does not pass is walked over number by number (`scanning`), which finds the first refusal.
-ghost use mathlib.Core.Bool.{true};
 ghost use mathlib.Core.Path.{_≡_};
 ghost use Prim.Native.Nat.{_+_, _*_, _<_, _≤_};
 ghost use lib.ListN.{length};
-ghost use Rattle.documents.specs.Walk.{Numbers, readHead, form};
-ghost use Rattle.documents.specs.Layout.{formOf, ticket, settlement};
-ghost use Rattle.passing.specs.Passes.{headPasses, HoursPass, pairPassesAt, RowPasses, PairsPass, AllFit};
+ghost use Rattle.passing.specs.Passes.{headPasses, hoursPass, pairPassesAt, rowPasses, pairsPass, ticketPasses, allFit};
+ghost use Rattle.passing.specs.Passes.{settlementPasses, passesAs};
 use checks::Document;
 use checks::Field;
 use checks::fault_of;
@@ -28,7 +26,7 @@ fn head_passes(kind: usize, growers: usize, pilots: usize) -> bool
 // Whether nobody's hours have a fault.
 fn hours_pass(list: &[u16], parties: usize) -> bool
     requires { ⌜ 3 + parties ≤ length (now list) ⌝ }
-    ensures { λ r. ⌜ (r ≡ true → HoursPass (now (list .entry)) parties) ⌝ }
+    ensures { λ r. ⌜ r ≡ hoursPass (now (list .entry)) parties ⌝ }
 {
     let mut pass = true;
     for k in 0..parties {
@@ -56,7 +54,7 @@ fn pair_at(none: bool, list: &[u16], at: usize) -> bool
 // Whether no pair of grower i has a fault. His pairs stand from a place on.
 fn row_passes(list: &[u16], growers: usize, pilots: usize, i: usize, from: usize) -> bool
     requires { ⌜ (i < growers) × (3 + growers + pilots ≤ length (now list)) × (from + 5 * pilots ≤ length (now list)) ⌝ }
-    ensures { λ r. ⌜ (r ≡ true → RowPasses (now (list .entry)) growers i from pilots) ⌝ }
+    ensures { λ r. ⌜ r ≡ rowPasses (now (list .entry)) growers pilots i from ⌝ }
 {
     let off = list[HEAD + i] == 0;
     let mut pass = true;
@@ -72,7 +70,7 @@ fn row_passes(list: &[u16], growers: usize, pilots: usize, i: usize, from: usize
 // Whether no pair has a fault.
 fn pairs_pass(list: &[u16], growers: usize, pilots: usize) -> bool
     requires { ⌜ (growers < 17) × (pilots < 17) × (3 + growers + pilots + 5 * (growers * pilots) ≤ length (now list)) ⌝ }
-    ensures { λ r. ⌜ (r ≡ true → PairsPass (now (list .entry)) growers pilots) ⌝ }
+    ensures { λ r. ⌜ r ≡ pairsPass (now (list .entry)) growers pilots ⌝ }
 {
     let mut pass = true;
     let mut from = HEAD + growers + pilots;
@@ -84,7 +82,7 @@ fn pairs_pass(list: &[u16], growers: usize, pilots: usize) -> bool
 }
 
 fn ticket_passes(list: &[u16]) -> bool
-    ensures { λ r. ⌜ (r ≡ true → form ticket readHead (now (list .entry)) ≡ Numbers (now (list .entry))) ⌝ }
+    ensures { λ r. ⌜ r ≡ ticketPasses (now (list .entry)) ⌝ }
 {
     if list.len() < HEAD {
         return false;
@@ -102,7 +100,7 @@ fn ticket_passes(list: &[u16]) -> bool
 
 // Whether no number has too many groups.
 fn all_fit(list: &[u16]) -> bool
-    ensures { λ r. ⌜ (r ≡ true → AllFit (now (list .entry))) ⌝ }
+    ensures { λ r. ⌜ r ≡ allFit (now (list .entry)) ⌝ }
 {
     let mut pass = true;
     for k in 0..list.len() {
@@ -111,9 +109,9 @@ fn all_fit(list: &[u16]) -> bool
     pass
 }
 
-// Of more growers or pilots than a square has room for nothing is said.
+// No settlement of more growers or pilots than a square has room for passes.
 fn settlement_passes(growers: usize, pilots: usize, list: &[u16]) -> bool
-    ensures { λ r. ⌜ (r ≡ true → form (settlement growers pilots) readHead (now (list .entry)) ≡ Numbers (now (list .entry))) ⌝ }
+    ensures { λ r. ⌜ r ≡ settlementPasses growers pilots (now (list .entry)) ⌝ }
 {
     if numbers::SIDE < growers {
         return false;
@@ -130,9 +128,9 @@ fn settlement_passes(growers: usize, pilots: usize, list: &[u16]) -> bool
         & all_fit(list)
 }
 
-// Whether a list is a document; if not, it may be one still.
+// Whether a list passes. What passes is a document, whole (`passes-whole`).
 pub fn passes(document: Document, list: &[u16]) -> bool
-    ensures { λ r. ⌜ (r ≡ true → form (formOf document) readHead (now (list .entry)) ≡ Numbers (now (list .entry))) ⌝ }
+    ensures { λ r. ⌜ r ≡ passesAs document (now (list .entry)) ⌝ }
 {
     match document {
         Document::Ticket => ticket_passes(list),

@@ -15,9 +15,9 @@ use Rattle.groups.specs.Groups.{pack}
 use Rattle.documents.specs.Walk.{Numbers, readHead, form}
 use Rattle.documents.specs.Layout.{ticket}
 use Rattle.reader.specs.Answer.{unpacked, packed}
-use Rattle.passing.specs.Passes.{headPasses, PairsPass}
+use Rattle.passing.specs.Passes.{headPasses}
 use Rattle.documents.proofs.PairLaws.{Deal, faultless-deal}
-use Rattle.passing.proofs.Accepting.{passes-faultless, ticket-whole}
+use Rattle.passing.proofs.Accepting.{PairsPass, passes-faultless, ticket-whole}
 use Rattle.reader.proofs.Facts.{unpacked-shape, unpacked-hours, DealAt, unpacked-deal, unpacked-none, packed-unpacked}
 
 -- The pair's first number stands at this place.

@@ -10,7 +10,7 @@ use lib.ListN.{getD, set, take, length, length-set}
 use lib.Seq.{sets, getD-take, length-sets}
 use Rattle.market.specs.Same.{SameTicket}
 use Rattle.offers.specs.declared.Terms.{Terms}
-use Rattle.documents.proofs.Tests.{both-hold}
+use Rattle.grid.proofs.EveryLaws.{both-hold}
 use Rattle.reader.proofs.Facts.{pair-below}
 use Rattle.tables.specs.View.{growersOf, pilotsOf, pairPlace, ticketOf, firstSixteen, ticketLength}
 use Rattle.ticket_calls.specs.declared.Party.{Party}

@@ -8,7 +8,7 @@ use native.Mathlib.Omega.{arith}
 use borrow.Author.Tests.{leb-true, ltb-true}
 use lib.Dec.{leb}
 use Rattle.numbers.proofs.Products.{prod-small}
-use Rattle.documents.proofs.Tests.{both-hold}
+use Rattle.grid.proofs.EveryLaws.{both-hold}
 use Rattle.reader.proofs.Facts.{pair-below}
 use Rattle.tables.specs.View.{growersOf, pilotsOf}
 use Rattle.ticket_calls.specs.declared.Party.{Party}

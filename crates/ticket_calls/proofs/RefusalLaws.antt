@@ -12,7 +12,7 @@ use Rattle.checks.specs.Refusals.{noParty, againstLimits, hoursAboveLimit, must
 use Rattle.checks.specs.TicketFaults.{faultOf}
 use Rattle.checks.proofs.FaultLaws.{must-holds}
 use Rattle.offers.specs.declared.Terms.{Terms}
-use Rattle.documents.proofs.Tests.{both-hold}
+use Rattle.grid.proofs.EveryLaws.{both-hold}
 use Rattle.ticket_calls.specs.declared.Party.{Party}
 use Rattle.ticket_calls.specs.Calls.{Call, isIn, hoursOf, termsPass, changed, hoursRefusal, termsRefusal, refusalOf, after}
 

@@ -9,8 +9,8 @@ use native.Mathlib.Numerals.{add-one}
 use native.Mathlib.Omega.{arith}
 use lib.ListN.{length, getD}
 use Rattle.decoding.specs.Numbered.{follows}
-use Rattle.documents.proofs.Tests.{both-hold, all-more}
-use Rattle.decoding.proofs.Decoding.{numbered-ends}
+use Rattle.grid.proofs.EveryLaws.{both-hold}
+use Rattle.decoding.proofs.Decoding.{all-more, numbered-ends}
 use Rattle.decoding.proofs.numbered.Statement.{statement}
 use Rattle.decoding.proofs.numbered.Tie as tie
 

@@ -4,7 +4,7 @@ use Prim.Native.Nat.{_-_, _≤_}
 use mathlib.Core.Path.{_≡_, sym}
 use native.Mathlib.Omega.{arith}
 use Rattle.certificate.specs.Rows.{rowKept}
-use Rattle.certificate.proofs.EveryLaws.{every-none, every-turn, every-end}
+use Rattle.grid.proofs.EveryLaws.{every-none, every-turn, every-end}
 use borrow.Author.Needs.{needs}
 use Rattle.certificate.proofs.pairs.row_kept.Statement.{statement}
 use Rattle.certificate.proofs.pairs.row_kept.Tie as tie

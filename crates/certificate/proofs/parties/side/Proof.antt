@@ -7,9 +7,9 @@ use mathlib.Core.List.{[]}
 use lib.Dec.{leb}
 use lib.ListN.{getD}
 use Rattle.grid.proofs.Sixteens.{Made, made-start, made-put}
-use Rattle.certificate.specs.Certified.{every}
+use Rattle.grid.specs.Every.{every}
 use Rattle.certificate.specs.Rows.{line, usedIn, partyAt}
-use Rattle.certificate.proofs.EveryLaws.{every-none, every-turn, every-end}
+use Rattle.grid.proofs.EveryLaws.{every-none, every-turn, every-end}
 use borrow.Author.Needs.{needs}
 use Rattle.certificate.proofs.parties.side.Statement.{statement}
 use Rattle.certificate.proofs.parties.side.Tie as tie
