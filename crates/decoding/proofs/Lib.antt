@@ -1,2 +1,4 @@
 -- The laws of `decoding`.
+pub mod ByteLaws
 pub mod Decoding
+pub mod Numbers

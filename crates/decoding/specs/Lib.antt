@@ -1,2 +1,2 @@
--- The definitions that the private functions of `decoding` cite.
+-- The definitions that the functions of `decoding` cite.
 pub mod Numbered

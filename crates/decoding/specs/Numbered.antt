@@ -1,10 +1,9 @@
--- Bytes that are numbers of at most two groups, and nothing else.
-use mathlib.Core.Path.{_≡_}
-use mathlib.Core.Bool.{Bool, true, cond, _||_, _&&_}
-use mathlib.Core.List.{List, _∷_}
-use Prim.Native.Nat.{ℕ, _+_, _-_, _*_, _/_, _<_}
-use lib.Dec.{ltb}
-use lib.ListN.{length, getD}
+-- Bytes that are numbers of at most two groups, and nothing else: which bytes are, and the numbers that they are.
+use mathlib.Core.Bool.{Bool, cond, _||_, _&&_}
+use mathlib.Core.List.{List, [], _∷_}
+use Prim.Native.Nat.{ℕ, _+_, _-_, _*_, _/_, _%_}
+use lib.Dec.{leb, ltb}
+use lib.ListN.{length}
 
 -- Of two bytes side by side, where a number has at most two groups: whether the second may follow the first, how many numbers it ends,
 -- and which.
@@ -15,9 +14,18 @@ abbrev pub ended : ℕ → ℕ
 ended b = 1 - b / 128
 
 abbrev pub joined : ℕ → ℕ → ℕ
-joined before b = cond (ltb before 128) b (before - 128 + 128 * b)
+joined before b = cond (ltb before 128) b (before % 128 + 128 * b)
 
--- Bytes that are numbers and nothing else: each may follow the one before it, which for the first is 0, and the last ends a number.
-pub record Numbered (s : List ℕ) : Type 0 where
-  pub follow : (i : ℕ) → i < length s → follows (getD (0 ∷ s) i 0) (getD s i 0) ≡ true
-  pub ends : getD (0 ∷ s) (length s) 0 < 128
+-- Of bytes after the byte `before`: each may follow the one before it, and the last ends a number; and the numbers that are ended.
+unfoldable pub numberedAfter : ℕ → List ℕ → Bool
+numberedAfter before [] = ltb before 128
+numberedAfter before (b ∷ s) = follows before b && numberedAfter b s
+
+unfoldable pub numbersAfter : ℕ → List ℕ → List ℕ
+numbersAfter before [] = []
+numbersAfter before (b ∷ s) = let more = numbersAfter b s in cond (ltb b 128) (joined before b ∷ more) more
+
+-- What bytes are decoded to: the numbers, where the bytes are numbers and nothing else and there is room for as many numbers as bytes; else
+-- nothing. Before the first byte stands 0, which ends a number.
+abbrev pub decodedAs : List ℕ → ℕ → List ℕ
+decodedAs s room = cond (leb (length s) room && numberedAfter 0 s) (numbersAfter 0 s) []

@@ -1,13 +1,11 @@
 // Bytes that are numbers and nothing else, decoded with no branch on them. Whether a number has one byte or two cannot be foretold, and a
 // processor that expects the wrong one loses more time than a number takes. All this is for numbers of at most two groups.
 ghost use mathlib.Core.Bool.{true};
-ghost use mathlib.Core.List.{[]};
 ghost use mathlib.Core.Path.{_≡_};
 ghost use Prim.Native.Nat.{_<_, _≤_};
-ghost use lib.ListN.{length, take};
-ghost use Rattle.groups.specs.Groups.{bytes};
-ghost use Rattle.documents.specs.Walk.{Gives};
-ghost use Rattle.decoding.specs.Numbered.{follows, ended, joined, Numbered};
+ghost use lib.ListN.{length};
+ghost use lib.Seq.{sets};
+ghost use Rattle.decoding.specs.Numbered.{follows, ended, joined, numberedAfter, numbersAfter, decodedAs};
 
 fn wide(b: u8) -> usize
     ensures { λ r. ⌜ (r ≡ b) × (r < 256) ⌝ }
@@ -44,7 +42,7 @@ fn joined(prior: usize, b: usize) -> u16
 
 // Whether bytes are numbers and nothing else.
 fn numbered(s: &[u8]) -> bool
-    ensures { λ r. ⌜ (r ≡ true → Numbered (now (s .entry))) ⌝ }
+    ensures { λ r. ⌜ r ≡ numberedAfter 0 (now (s .entry)) ⌝ }
 {
     let mut well = true;
     let mut prior: u8 = 0;
@@ -58,9 +56,10 @@ fn numbered(s: &[u8]) -> bool
 
 // Decodes numbers, each when its last byte is met, and returns how many there are.
 fn decode_numbers(s: &[u8], list: &mut [u16]) -> usize
-    requires { ⌜ Numbered (now s) ⌝ }
+    requires { ⌜ numberedAfter 0 (now s) ≡ true ⌝ }
     requires { ⌜ length (now s) ≤ length (now list) ⌝ }
-    ensures { λ r. ⌜ (r ≤ length (now (list .exit))) × Gives bytes (now (s .entry)) (take r (now (list .exit))) [] ⌝ }
+    ensures { λ r. ⌜ r ≡ length (numbersAfter 0 (now (s .entry))) ⌝ }
+    ensures { λ r. ⌜ now (list .exit) ≡ sets (now (list .entry)) 0 (numbersAfter 0 (now (s .entry))) ⌝ }
 {
     let mut count: usize = 0;
     let mut prior: usize = 0;
@@ -73,9 +72,11 @@ fn decode_numbers(s: &[u8], list: &mut [u16]) -> usize
     count
 }
 
-// Decodes bytes that are numbers and nothing else into a list that has room for them, and returns how many there are; of other bytes none.
+// Decodes bytes that are numbers and nothing else into a list that has room for as many numbers as bytes, and returns how many there are.
+// Of other bytes it decodes none, and leaves the list as it was.
 pub fn decode(s: &[u8], list: &mut [u16]) -> usize
-    ensures { λ r. ⌜ (0 < r → (r ≤ length (now (list .exit))) × Gives bytes (now (s .entry)) (take r (now (list .exit))) []) ⌝ }
+    ensures { λ r. ⌜ r ≡ length (decodedAs (now (s .entry)) (length (now (list .entry)))) ⌝ }
+    ensures { λ r. ⌜ now (list .exit) ≡ sets (now (list .entry)) 0 (decodedAs (now (s .entry)) (length (now (list .entry)))) ⌝ }
 {
     if list.len() < s.len() {
         return 0;

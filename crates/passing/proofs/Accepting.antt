@@ -26,7 +26,7 @@ use Rattle.documents.specs.declared.State.{State}
 use Rattle.documents.specs.Walk.{Numbers, readHead, form}
 use Rattle.documents.specs.State.{start}
 use Rattle.documents.specs.Layout.{formOf, ticket, settlement}
-use Rattle.passing.specs.Passes.{headPasses, hoursPass, pairPassesAt, pairsPass, ticketPasses, allFit, settlementPasses, passesAs}
+use Rattle.passing.specs.Passes.{headPasses, hoursPass, pairPassesAt, pairsPass, allFit, passesAs}
 use Rattle.documents.proofs.WalkLaws.{Good, accepts-form}
 use Rattle.documents.proofs.Undoing.{head-whole}
 use Rattle.documents.proofs.TicketLaws.{Stands, place-after, deal-place}
@@ -222,7 +222,8 @@ settlement-whole n m list l kind growers pilots fit =
     (head-whole list)
 
 -- A list that passes is a document, whole.
-pub passes-whole : (document : Document) (list : List ℕ) → passesAs document list ≡ true → form (formOf document) readHead list ≡ Numbers list
+pub passes-whole : (document : Document) (list : List ℕ) → passesAs document list ≡ true →
+    form (formOf document) readHead list ≡ Numbers list
 passes-whole Document.Ticket list e =
     let n = getD list 1 0 in
     let m = getD list 2 0 in

@@ -1,5 +1,5 @@
--- `decoding::decode_numbers` meets its contract: the invariant is `Decoding`: the numbers that were met, and from where the rest is
--- left. Assumes nothing.
+-- `decoding::decode_numbers` meets its contract: the invariant is `Decoding`: the rest is numbers, which make the whole with those
+-- that were met. Assumes nothing.
 use borrow.Author.Needs.{needs}
 use Prim.Native.Nat.{_-_}
 use native.Mathlib.Omega.{arith}
@@ -15,24 +15,20 @@ abbrev μ-loop : tie.MeasureT-loop
 μ-loop s list₀ count₀ prior₀ i₀ i-end list count prior i = length s - i
 
 loop-holds : tie.Need-loop-holds Inv-loop μ-loop
-loop-holds c = decoding-starts _ _
+loop-holds c = decoding-starts _ _ (c .before .before .pre .0)
 
 loop-again : tie.Need-loop-again Inv-loop μ-loop
 loop-again c =
-    let start = c .before .before .before .before .before .before .before .before in
     let b = c .before .before .wide in
     rw (c .ended .ensures)
-    (decoding-turns (c .before .before .before .before .before .loop .inv) (b .result) (c .before .joined .result) (start .pre .0)
-    (omega arith) (start .pre .1) (b .ensures .0) (b .ensures .1) (c .before .joined .ensures))
+    (decoding-turns (c .before .before .before .before .before .loop .inv) (b .result) (c .before .joined .result)
+    (omega arith) (b .ensures .0) (b .ensures .1) (c .before .joined .ensures))
 
 same-length : tie.Need-same-length Inv-loop μ-loop
 same-length c = c .before .loop .inv .long
 
 returns : tie.Need-returns Inv-loop μ-loop
-returns c =
-    let i = c .before .loop .inv in
-    let pre = c .before .before .before .before .pre in
-    (omega (arith, i .few, i .within, i .long, pre .1), decoding-ends i (pre .0) (omega arith))
+returns c = decoding-ends (c .before .loop .inv) (omega arith)
 
 pub decode-numbers-spec : {M : Type 1} → statement M
 decode-numbers-spec =

@@ -1,44 +1,32 @@
--- `decoding::numbered` meets its contract: each byte that was looked at may follow the one before it. Assumes nothing.
+-- `decoding::numbered` meets its contract: what was found of the bytes that were looked at, and what is to be found of the rest, decide.
+-- Assumes nothing.
 use borrow.Author.Needs.{needs}
-use borrow.Author.Tests.{ltb-true}
-use mathlib.Core.Bool.{true}
-use mathlib.Core.List.{_∷_}
-use mathlib.Core.Path.{_≡_, sym, _∙_}
-use Prim.Native.Nat.{ℕ, _-_, _≤_, _<_}
-use native.Mathlib.Numerals.{add-one}
+use mathlib.Core.Bool.{_&&_}
+use mathlib.Core.Path.{_≡_, refl}
+use Prim.Native.Nat.{_-_, _≤_}
 use native.Mathlib.Omega.{arith}
-use lib.ListN.{length, getD}
-use Rattle.decoding.specs.Numbered.{follows}
-use Rattle.grid.proofs.EveryLaws.{both-hold}
-use Rattle.decoding.proofs.Decoding.{all-more, numbered-ends}
+use lib.ListN.{length, drop}
+use Rattle.decoding.specs.Numbered.{numberedAfter}
+use Rattle.decoding.proofs.Decoding.{numbered-turns, numbered-ends}
 use Rattle.decoding.proofs.numbered.Statement.{statement}
 use Rattle.decoding.proofs.numbered.Tie as tie
 
 abbrev Inv-loop : tie.InvT-loop
-Inv-loop s well₀ prior₀ i₀ i-end well prior i =
-    (i ≤ length s)
-    × (prior ≡ getD (0 ∷ s) i 0)
-    × (well ≡ true → (p : ℕ) → p < i → follows (getD (0 ∷ s) p 0) (getD s p 0) ≡ true)
+Inv-loop s well₀ prior₀ i₀ i-end well prior i = (i ≤ length s) × ((well && numberedAfter prior (drop i s)) ≡ numberedAfter 0 s)
 
 abbrev μ-loop : tie.MeasureT-loop
 μ-loop s well₀ prior₀ i₀ i-end well prior i = length s - i
 
 loop-holds : tie.Need-loop-holds Inv-loop μ-loop
-loop-holds c = (omega arith, omega arith, λ e p h. absurd (omega arith))
+loop-holds c = (omega arith, refl)
 
 loop-again : tie.Need-loop-again Inv-loop μ-loop
 loop-again c =
-    let i = c .before .before .before .loop .inv in (
-      omega arith,
-      rw (add-one (c .before .before .before .loop .i)),
-      all-more _ _ _ _ (i .2) (λ e. rw (← i .1) (sym (c .follows .ensures) ∙ e)),
-    )
+    let l = c .before .before .before .loop in
+    (omega arith, rw (c .follows .ensures) (numbered-turns _ (l .i) (l .prior) _ (l .well) (omega arith) refl (l .inv .1)))
 
 returns : tie.Need-returns Inv-loop μ-loop
-returns c e =
-    let i = c .before .loop .inv in
-    let t = both-hold (c .before .loop .well) _ e in
-    numbered-ends _ _ _ (i .0) (omega arith) (i .1) (i .2 (t .0)) (ltb-true _ 128 (t .1))
+returns c = let l = c .before .loop in numbered-ends _ (l .i) (l .prior) (l .well) (omega arith) (l .inv .1)
 
 pub numbered-spec : {M : Type 1} → statement M
 numbered-spec =

@@ -1,4 +1,4 @@
--- `passing::settlement_passes` meets its contract: its count, its first three numbers, and that all numbers fit. Assumes nothing.
+-- `passing::settlement_passes` meets its contract: its count, its first three numbers, and whether all numbers fit. Assumes nothing.
 use borrow.Author.Needs.{needs}
 use borrow.Author.Tests.{le-leb, lt-leb, eq-eqb, ne-eqb}
 use Prim.Native.Nat.{_+_, _*_}
@@ -29,7 +29,7 @@ returns-4 c =
     let f₁ = f₂ .before .before .before in
     let f₀ = f₁ .before .before .before in
     let s = f₀ .before .before .before in
-    let a = c .before .before .before .before .before .before .before .before .before .before .before .before .before .before .before .args in
+    let a = s .before .before .before .before .before .args in
     let e = s .before .pairs .ensures .1 (omega arith) (omega arith) in
     rw (
       le-leb _ 16 (s .before .before .before .if1 .left),

@@ -5,6 +5,7 @@ use borrow.Author.Tests.{not-false}
 use native.Mathlib.Omega.{arith}
 use lib.ListN.{length}
 use mathlib.Core.Path.{_≡_, sym, ap, _∙_}
+use Rattle.decoding.proofs.Numbers.{decoded-given}
 use Rattle.passing.proofs.Accepting.{passes-whole}
 use Rattle.reader.proofs.Filling.{Decoded, decoded, decoded-short, decoded-done}
 use Rattle.reader.proofs.copy.receive.Statement.{statement}
@@ -16,9 +17,12 @@ own : (c : tie.Else1) →
     Decoded (start .args .document) (start .args .s .now) (c .before .before .front .result .now)
     (c .before .before .before .before .before .decode .result)
 own c =
-    let document = c .before .before .before .before .before .before .before .before .before .before .args .document in
-    decoded _ _ _ _ _ (c .before .before .before .before .before .decode .ensures) (c .before .before .front .ensures)
-    (passes-whole document (c .before .before .front .result .now) (sym (c .before .passes .ensures) ∙ not-false _ (c .if1 .left)))
+    let start = c .before .before .before .before .before .before .before .before .before .before in
+    let lent = c .before .before .before .before .before .before .before .room .result in
+    let d = c .before .before .before .before .before .decode .ensures in
+    decoded _ _ _ _ _ (decoded-given (start .args .s .now) lent _ _ (d .0) (d .1)) (c .before .before .front .ensures)
+    (passes-whole (start .args .document) (c .before .before .front .result .now)
+    (sym (c .before .passes .ensures) ∙ not-false _ (c .if1 .left)))
 
 -- they are the same when they are copied
 again : (c : tie.After-front2) → c .front2 .result .now ≡ c .before .before .before .before .before .front .result .now
