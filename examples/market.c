@@ -1,6 +1,7 @@
 /*
  * Opens a market from a ticket file, makes some calls on it, and after each one packs
- * the ticket that is held and marks the settlement that is held against it.
+ * the ticket that is held, marks the settlement that is held against it, and prints
+ * everybody's free hours.
  */
 #include "hours_exchange.h"
 
@@ -19,7 +20,19 @@ static size_t read_file(const char *name, uint8_t *bytes, size_t room)
     return length;
 }
 
-/* What was called, its refusal if there is one, and the verdict on what is held. */
+/* They are held, and nothing is summed. A market's second number is its growers, the third its pilots. */
+static void tell_free_hours(void)
+{
+    printf("free hours: growers");
+    for (uint16_t grower = 0; grower < market[1]; grower++)
+        printf(" %" PRIu16, exchange_market_grower_free_hours(market, grower));
+    printf(", pilots");
+    for (uint16_t pilot = 0; pilot < market[2]; pilot++)
+        printf(" %" PRIu16, exchange_market_pilot_free_hours(market, pilot));
+    printf("\n");
+}
+
+/* What was called, its refusal if there is one, the verdict on what is held, and the free hours. */
 static void tell(const char *called, uint32_t reply)
 {
     uint8_t ticket[EXCHANGE_TICKET_BYTES];
@@ -29,6 +42,7 @@ static void tell(const char *called, uint32_t reply)
     uint64_t mark = exchange_mark(ticket, ticket_length, settlement, length);
     printf("%s: refusal %" PRIu32 ", verdict %" PRIu32 ", count %" PRIu32 "\n", called, exchange_refusal(reply),
            exchange_mark_verdict(mark), exchange_mark_count(mark));
+    tell_free_hours();
 }
 
 int main(int argc, char **argv)
@@ -48,5 +62,6 @@ int main(int argc, char **argv)
     tell("a cap with pilot 1", exchange_set_pair(market, EXCHANGE_MARKET_NUMBERS, 0, 1, 1, 0, 0, 0, 0));
     tell("grower 16", exchange_set_grower_hours(market, EXCHANGE_MARKET_NUMBERS, 16, 5));
     tell("new terms", exchange_set_pair(market, EXCHANGE_MARKET_NUMBERS, 1, 2, 3, 40, 50, 2, 100));
+    tell("grower 0 is off", exchange_set_grower_hours(market, EXCHANGE_MARKET_NUMBERS, 0, 0));
     return 0;
 }

@@ -1,8 +1,8 @@
 #!/usr/bin/env bash
 # Builds mark.c and market.c, and a shared object for mark.py, over the proved archive, and runs them on the example files.
-# Each says what it must: the verdict, and of a sound settlement its worth, if there is no tariff deal, and the account. So does
-# the program exchange, in its own words; and what its desk saves is what it holds, and sound. The exit status is 1 if any does not,
-# or if something cannot be built.
+# Each says what it must: the verdict, and of a sound settlement its worth, if there is no tariff deal, and the account; of an open
+# market everybody's free hours. So does the program exchange, in its own words; and what its desk saves is what it holds, and sound.
+# The exit status is 1 if any does not, or if something cannot be built.
 set -eu
 root=$(cd "$(dirname "$0")/.." && pwd)
 examples=$root/examples
@@ -127,13 +127,24 @@ compare "exchange desk: the saved ticket" "$("$program" unpack "$examples/two_pi
     "$program" unpack "$saved"
 compare "exchange desk: the saved settlement" "$(printf '%s\n' "MARK 1 0 0 tariff 4" "sound: no deal is idle or blocks" \
     "worth 12: no settlement of this ticket is worth more")" marked "$saved" "$settlement"
+compare "exchange desk: free hours" "$(printf '%s\n' "growers 0" "pilots 0 1" OK "growers 0" "pilots 1 0" OK "growers 0" "pilots 1 1")" \
+    desk "$examples/two_pilots.ticket" free "pair 0 1 0 0 0 1 12" free "grower 0 hours 0" free
 compare "exchange desk: save to no folder" FAILED desk "$examples/two_pilots.ticket" "save $out/none/a $out/none/b"
 compare "exchange desk: a refused ticket" "REFUSED 18" desk "$examples/week_pilot_off.ticket" sheet
 compare "exchange desk: an answer before the next line" "REFUSED 19" answer_at_once "$examples/two_pilots.ticket" "grower 1 hours 1"
 
-compare "market.c week" "$(printf '%s\n' "opened: refusal 0, verdict 1, count 18" "pilot 1 is off: refusal 0, verdict 1, count 18" \
-    "a cap with pilot 1: refusal 20, verdict 1, count 18" "grower 16: refusal 19, verdict 1, count 18" \
-    "new terms: refusal 0, verdict 1, count 18")" "$out/market" "$examples/week.ticket"
+compare "market.c week" "$(printf '%s\n' "opened: refusal 0, verdict 1, count 18" \
+    "free hours: growers 1 0 0, pilots 0 0 0" \
+    "pilot 1 is off: refusal 0, verdict 1, count 18" \
+    "free hours: growers 1 4 0, pilots 0 0 0" \
+    "a cap with pilot 1: refusal 20, verdict 1, count 18" \
+    "free hours: growers 1 4 0, pilots 0 0 0" \
+    "grower 16: refusal 19, verdict 1, count 18" \
+    "free hours: growers 1 4 0, pilots 0 0 0" \
+    "new terms: refusal 0, verdict 1, count 18" \
+    "free hours: growers 3 2 0, pilots 0 0 0" \
+    "grower 0 is off: refusal 0, verdict 1, count 18" \
+    "free hours: growers 0 0 0, pilots 0 0 1")" "$out/market" "$examples/week.ticket"
 compare "market.c week_pilot_off" "refused with 18" "$out/market" "$examples/week_pilot_off.ticket"
 
 echo "examples: $passed passed, $failed failed"

@@ -32,8 +32,8 @@
  *
  * No function allocates, keeps state between calls, or reads or writes anything
  * but its arguments. Each may run in several threads at once, on buffers of
- * their own, and in a signal handler. A call needs less than 64 KiB of stack;
- * that is measured, not proved.
+ * their own, and in a signal handler. exchange_call needs less than 96 KiB of stack,
+ * every other function less than 64 KiB; that is measured, not proved.
  */
 #ifndef HOURS_EXCHANGE_H
 #define HOURS_EXCHANGE_H
@@ -51,7 +51,7 @@ extern "C" {
 #define EXCHANGE_SETTLEMENT_BYTES 1027 /* of exchange_settle's settlement */
 #define EXCHANGE_SHEET_BYTES 8216      /* of exchange_sheet's text */
 #define EXCHANGE_ACCOUNT_NUMBERS 48    /* of exchange_account's list */
-#define EXCHANGE_MARKET_NUMBERS 2086   /* of exchange_open's market: no fewer do */
+#define EXCHANGE_MARKET_NUMBERS 2118   /* of exchange_open's market: no fewer do */
 #define EXCHANGE_CALL_NUMBERS 8        /* of each of exchange_call's calls */
 
 /*
@@ -185,12 +185,20 @@ static inline uint32_t exchange_worth_refusal(uint64_t worth)
 }
 
 /*
- * A market that is held open: a ticket and a sound settlement of it, as the caller's
- * list of EXCHANGE_MARKET_NUMBERS numbers. First stands the ticket's list, as
- * exchange_unpack writes it, with zeros up to EXCHANGE_TICKET_NUMBERS; then the
- * settlement's, in its file's order, with zeros after it. Copy the list to keep a
- * market; write to it only by exchange_open and exchange_call.
+ * A market that is held open is the caller's list of EXCHANGE_MARKET_NUMBERS numbers:
+ *
+ *   from 0                                     a ticket's list, as exchange_unpack writes it
+ *   from EXCHANGE_TICKET_NUMBERS               a sound settlement of it, in its file's order
+ *   from EXCHANGE_MARKET_GROWER_FREE_HOURS     the free hours of each grower
+ *   from EXCHANGE_MARKET_PILOT_FREE_HOURS      the free hours of each pilot
+ *
+ * After each stand zeros up to the next, or to the end. Somebody's free hours are his
+ * hours less those in all his deals of the settlement. Copy the list to keep a market;
+ * write to it only by exchange_open and exchange_call.
  */
+#define EXCHANGE_MARKET_GROWER_FREE_HOURS 2086
+#define EXCHANGE_MARKET_PILOT_FREE_HOURS 2102
+#define EXCHANGE_PARTIES 16 /* growers at most, and pilots at most */
 
 /*
  * Opens a market from a ticket. Returns EXCHANGE_MARKET_NUMBERS. Refusals 1 to 9 and
@@ -208,12 +216,12 @@ uint32_t exchange_open(const uint8_t *ticket, size_t ticket_length,
  *
  * What stands after HOURS is not looked at. Hours of 0 set the numbers of all the
  * party's pairs to 0, too. After each call the settlement is sound for the ticket as
- * the accepted calls left it. A call that is refused changes nothing; the calls after
- * it are done. Returns EXCHANGE_MARKET_NUMBERS if all were accepted, else the first
- * refusal: 19 says that there is no such party, 20 that a number breaks the ticket's
- * limits, or that this is no call: another first number, or fewer than 8 numbers at
- * the list's end. 10, before all else, says that the market's list is too short, and
- * nothing is done.
+ * the accepted calls left it, and the free hours are what it leaves to everybody. A
+ * call that is refused changes nothing; the calls after it are done. Returns
+ * EXCHANGE_MARKET_NUMBERS if all were accepted, else the first refusal: 19 says that
+ * there is no such party, 20 that a number breaks the ticket's limits, or that this is
+ * no call: another first number, or fewer than 8 numbers at the list's end. 10, before
+ * all else, says that the market's list is too short, and nothing is done.
  */
 uint32_t exchange_call(uint16_t *market, size_t market_length,
                        const uint16_t *calls, size_t calls_length);
@@ -249,6 +257,17 @@ static inline uint32_t exchange_set_pair(uint16_t *market, size_t market_length,
 static inline size_t exchange_market_ticket_numbers(const uint16_t *market)
 {
     return 3 + (size_t)market[1] + market[2] + 5 * (size_t)market[1] * market[2];
+}
+
+/* The free hours of a grower, and of a pilot, which the market holds; 0 if there is no such party. */
+static inline uint16_t exchange_market_grower_free_hours(const uint16_t *market, uint16_t grower)
+{
+    return grower < EXCHANGE_PARTIES ? market[EXCHANGE_MARKET_GROWER_FREE_HOURS + grower] : 0;
+}
+
+static inline uint16_t exchange_market_pilot_free_hours(const uint16_t *market, uint16_t pilot)
+{
+    return pilot < EXCHANGE_PARTIES ? market[EXCHANGE_MARKET_PILOT_FREE_HOURS + pilot] : 0;
 }
 
 /*

@@ -11,7 +11,10 @@ one. Otherwise a line says what is wrong. So the program is right if `expected` 
 
 does the same for a desk: TICKET is the file that it was opened with, LINES is its standard input. Which settlement is held is left to the
 program: of a `sheet` it is judged that it shows a sound settlement of the ticket as the accepted calls left it, and the same one as before
-if no call was accepted since. `save` may say OK or FAILED, and `help` is a line for each kind of line; both are written through.
+if no call was accepted since. Of `free` it is judged that the figures are what the settlement of the sheet leaves of everybody's hours, be
+the sheet printed before or after it; where no sheet is printed between two accepted calls, that all growers together have as many hours in
+deals as all pilots, and nobody more than his own. `save` may say OK or FAILED, and `help` is a line for each kind of line; both are written
+through.
 
 The head of crates/cases/stdin says how the cases are written. Python 3, without packages.
 """
@@ -546,7 +549,9 @@ class Desk:
     def __init__(self, data, own):
         self.market = OpenMarket(data)
         self.own = own
-        self.shown = None  # the sheet, once one was printed and while no call was accepted since
+        # The sheet and the free hours, once they were printed and while no call was accepted since.
+        self.shown = None
+        self.free = None
 
     def take(self, count):
         """The program's next lines, fewer at their end."""
@@ -575,6 +580,8 @@ class Desk:
             return self.call(lambda: self.market.set_pair(*numbers))
         if words == ["sheet"]:
             return self.sheet()
+        if words == ["free"]:
+            return self.free_hours()
         if words == ["ticket"]:
             listed = ticket_lines(self.market.ticket)
             self.take(len(listed))
@@ -591,20 +598,37 @@ class Desk:
             change()
         except Refused as refusal:
             return "REFUSED %d\n" % refusal.why
-        self.shown = None
+        self.shown = self.free = None
         return "OK\n"
 
     def sheet(self):
         length = next((k + 1 for k, line in enumerate(self.own) if line.startswith("SOUND ")), 1)
         own = "".join(line + "\n" for line in self.take(length))
         expected = sound_sheet(self.market.ticket, own)
+        if expected.startswith(WRONG):
+            return expected
         if self.shown not in (None, expected):
             return wrong("another sheet than before, though no call was accepted")
+        if self.free not in (None, free_lines(shown_settlement(self.market.ticket, expected))):
+            return wrong("leaves other free hours than were printed before")
         self.shown = expected
         return expected
 
+    def free_hours(self):
+        own = self.take(2)
+        if self.shown is not None:
+            expected = free_lines(shown_settlement(self.market.ticket, self.shown))
+        elif self.free is not None:
+            expected = self.free
+        elif may_be_free(self.market.ticket, own):
+            expected = own
+        else:
+            return wrong("not everybody's free hours, whatever the settlement")
+        self.free = expected
+        return "".join(line + "\n" for line in expected)
+
     def help(self):
-        kinds = ("grower", "pilot", "pair", "sheet", "ticket", "save", "help")
+        kinds = ("grower", "pilot", "pair", "sheet", "free", "ticket", "save", "help")
         own = self.take(len(kinds))
         if [line.split(" ")[0] for line in own] != list(kinds):
             return wrong("not a line for each kind of line")
@@ -613,6 +637,30 @@ class Desk:
     def saved(self):
         own = self.take(1)
         return own[0] + "\n" if own in (["OK"], ["FAILED"]) else wrong("neither OK nor FAILED")
+
+
+def free_lines(settlement):
+    """Everybody's free hours, a line for the growers and one for the pilots."""
+    ticket = settlement.ticket
+    return [
+        " ".join([name, *(str(settlement.free_hours(party, who)) for who in range(parties))])
+        for name, party, parties in (("growers", GROWER, ticket.n), ("pilots", PILOT, ticket.m))
+    ]
+
+
+def may_be_free(ticket, lines):
+    """Whether two lines are laid out as everybody's free hours, and some settlement may leave so many of this ticket's."""
+    if len(lines) != 2:
+        return False
+    in_deals = []
+    for line, name, all_hours in zip(lines, ("growers", "pilots"), (ticket.grower_hours, ticket.pilot_hours)):
+        if not re.fullmatch(name + r"( (0|[1-9][0-9]*)){%d}" % len(all_hours), line):
+            return False
+        figures = [int(word) for word in line.split(" ")[1:]]
+        if any(free > hours for free, hours in zip(figures, all_hours)):
+            return False
+        in_deals.append(sum(all_hours) - sum(figures))
+    return in_deals[0] == in_deals[1]
 
 
 def ticket_lines(ticket):

@@ -6,6 +6,7 @@
 
 use exchange_bench::draw::shapes::shapes;
 use exchange_bench::tables::calls::calls;
+use exchange_bench::tables::free_hours::free_hours;
 use exchange_bench::tables::operations::operations;
 use exchange_bench::tables::settling::{guessing, settling, turns};
 use exchange_bench::timing::{FEWEST_SAMPLES, MOST_SAMPLES, SAMPLE};
@@ -33,8 +34,13 @@ fn main() {
     println!();
     operations().print();
     println!(
-        "\nA call on an open market gives one pair other terms; the market is settled anew and holds the settlement. Beside it the \
-         ticket as it is then is settled from its bytes.\n"
+        "\nA call on an open market gives one pair other terms; the market is settled anew and holds the settlement and \
+         everybody's free hours. Beside it the ticket as it is then is settled from its bytes.\n"
     );
     calls().print();
+    println!(
+        "\nEverybody's free hours are held: all 32 numbers are read from the market's list. Beside it they are summed over all \
+         deals of the settlement in the same list. Both are in plain Rust.\n"
+    );
+    free_hours().print();
 }

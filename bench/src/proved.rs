@@ -108,7 +108,8 @@ pub fn account(ticket: &[u8], settlement: &[u8], list: &mut [u32]) -> Answer<usi
     count_or_refusal(number)
 }
 
-/// Opens a market: writes its ticket's numbers and those of a sound settlement, in `plain::open_market::MARKET_NUMBERS` places.
+/// Opens a market: writes its ticket's numbers, those of a sound settlement, and everybody's free hours, in
+/// `plain::open_market::MARKET_NUMBERS` places.
 pub fn open(ticket: &[u8], market: &mut [u16]) -> Answer<usize> {
     let places = market.len();
     // SAFETY: as above.

@@ -4,6 +4,7 @@
 pub mod account;
 pub mod certificate;
 pub mod flow;
+pub mod free_hours;
 pub mod guess;
 pub mod mark;
 pub mod method;

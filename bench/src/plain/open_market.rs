@@ -1,16 +1,21 @@
-//! The open market: a ticket that calls change, and a sound settlement of it.
+//! The open market: a ticket that calls change, a sound settlement of it, and everybody's free hours.
 
 use super::Refusal;
+use super::free_hours::FreeHours;
 use super::numbers::Bytes;
 use super::settle::settled_squares;
 use super::settlement::Settlement;
-use super::squares::{SettlementSquares, TicketSquares};
+use super::squares::{SIDE, SettlementSquares, TicketSquares};
 use super::ticket::{MOST_AMOUNT, MOST_HOURS, MOST_NUMBERS, Terms, Ticket, ticket_numbers};
 
 /// The places of a ticket's numbers in the list of a market, and those of a settlement's after them.
 pub const TICKET_NUMBERS: usize = MOST_NUMBERS;
 const SETTLEMENT_NUMBERS: usize = 771;
-pub const MARKET_NUMBERS: usize = TICKET_NUMBERS + SETTLEMENT_NUMBERS;
+
+/// Where in the list the growers' free hours begin, and the pilots'.
+pub const GROWER_FREE_HOURS: usize = TICKET_NUMBERS + SETTLEMENT_NUMBERS;
+pub const PILOT_FREE_HOURS: usize = GROWER_FREE_HOURS + SIDE;
+pub const MARKET_NUMBERS: usize = PILOT_FREE_HOURS + SIDE;
 
 /// How many numbers a call has in a list of calls.
 pub const CALL_NUMBERS: usize = 8;
@@ -77,13 +82,19 @@ impl Call {
 pub struct OpenMarket {
     ticket: TicketSquares,
     settlement: SettlementSquares,
+    free_hours: FreeHours,
 }
 
 impl OpenMarket {
     pub fn open(file: &[u8]) -> Result<OpenMarket, Refusal> {
         let ticket = TicketSquares::from_numbers(&ticket_numbers(Bytes(file))?);
         let settlement = settled_squares(&ticket);
-        Ok(OpenMarket { ticket, settlement })
+        let free_hours = FreeHours::left_by(&ticket, &settlement);
+        Ok(OpenMarket {
+            ticket,
+            settlement,
+            free_hours,
+        })
     }
 
     pub fn ticket(&self) -> Ticket {
@@ -95,12 +106,14 @@ impl OpenMarket {
             .settlement(self.ticket.growers, self.ticket.pilots)
     }
 
-    /// Both as the list of a market: the ticket's numbers, the settlement's, each with zeros after them.
+    /// All as the list of a market: the ticket's numbers, the settlement's, each with zeros after them, and the free hours.
     pub fn numbers(&self) -> Vec<u16> {
         let mut numbers = self.ticket().numbers();
         numbers.resize(TICKET_NUMBERS, 0);
         numbers.extend(self.settlement().numbers());
-        numbers.resize(MARKET_NUMBERS, 0);
+        numbers.resize(GROWER_FREE_HOURS, 0);
+        numbers.extend(self.free_hours.growers);
+        numbers.extend(self.free_hours.pilots);
         numbers
     }
 
@@ -116,6 +129,7 @@ impl OpenMarket {
             } => self.set_pair(grower, pilot, terms)?,
         }
         self.settlement = settled_squares(&self.ticket);
+        self.free_hours = FreeHours::left_by(&self.ticket, &self.settlement);
         Ok(())
     }
 

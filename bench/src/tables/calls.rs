@@ -123,7 +123,7 @@ fn step(ticket: &Ticket, call: Call) -> Step {
     }
 }
 
-fn proved_market(ticket: &Ticket) -> [u16; MARKET_NUMBERS] {
+pub(super) fn proved_market(ticket: &Ticket) -> [u16; MARKET_NUMBERS] {
     let mut list = [0; MARKET_NUMBERS];
     proved::open(&ticket.bytes(), &mut list).expect("the ticket is good");
     list

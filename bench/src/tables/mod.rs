@@ -1,6 +1,7 @@
 //! The tables of the benchmark, in Markdown.
 
 pub mod calls;
+pub mod free_hours;
 pub mod operations;
 pub mod settling;
 
@@ -46,10 +47,17 @@ fn print_row(row: &[String]) {
     println!("| {} |", row.join(" | "));
 }
 
-/// A time in microseconds or milliseconds.
+/// A time in nanoseconds, microseconds or milliseconds.
 pub fn time(duration: Duration) -> String {
-    let micros = duration.as_secs_f64() * 1e6;
+    time_of_each(duration, 1)
+}
+
+/// The time of each of so many, which may be a part of a nanosecond.
+pub fn time_of_each(all: Duration, count: u32) -> String {
+    let micros = all.as_secs_f64() * 1e6 / f64::from(count);
     match micros {
+        ..0.00995 => format!("{:.2} ns", micros * 1e3),
+        ..0.0995 => format!("{:.0} ns", micros * 1e3),
         ..9.95 => format!("{micros:.2} µs"),
         ..999.5 => format!("{micros:.0} µs"),
         ..9995.0 => format!("{:.2} ms", micros / 1e3),

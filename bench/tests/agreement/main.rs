@@ -3,6 +3,7 @@
 
 mod account;
 mod buffers;
+mod free_hours;
 mod guess;
 mod mark;
 mod old_caps;

@@ -1,12 +1,16 @@
+use std::ops::Range;
+
 use exchange_bench::draw::calls::{any_call, no_call};
 use exchange_bench::draw::damage::damaged_ticket_file;
 use exchange_bench::draw::generator::Generator;
 use exchange_bench::draw::tickets::any_ticket;
 use exchange_bench::plain::Refusal;
 use exchange_bench::plain::open_market::{
-    CALL_NUMBERS, Call, MARKET_NUMBERS, OpenMarket, TICKET_NUMBERS,
+    CALL_NUMBERS, Call, GROWER_FREE_HOURS, MARKET_NUMBERS, OpenMarket, PILOT_FREE_HOURS,
+    TICKET_NUMBERS,
 };
 use exchange_bench::plain::settlement::Settlement;
+use exchange_bench::plain::ticket::Ticket;
 use exchange_bench::proved;
 
 use crate::buffers::{Room, same_answer};
@@ -15,8 +19,8 @@ use crate::settle::assert_sound;
 use crate::tally::Tally;
 
 const TICKETS: usize = 20_000;
-const MARKETS: usize = 20_000;
-const MOST_CALLS: usize = 12;
+pub const MARKETS: usize = 20_000;
+pub const MOST_CALLS: usize = 12;
 
 /// A market opened by both, as the proved one's list. They hold the same.
 fn opened(file: &[u8]) -> (Vec<u16>, OpenMarket) {
@@ -27,7 +31,7 @@ fn opened(file: &[u8]) -> (Vec<u16>, OpenMarket) {
     (list, market)
 }
 
-/// Tickets and settlements are the same, in every place and as files.
+/// Tickets, settlements and free hours are the same, in every place, and settlements as files.
 fn assert_same(list: &[u16], market: &OpenMarket) {
     assert_eq!(list, market.numbers());
     let mut file = [0; 1027];
@@ -42,10 +46,15 @@ fn assert_same(list: &[u16], market: &OpenMarket) {
 fn assert_holds_sound(list: &[u16], market: &OpenMarket) {
     let ticket = market.ticket();
     assert_eq!(list[..ticket.numbers().len()], ticket.numbers());
+    assert_sound(&ticket, &held_settlement(list, &ticket));
+}
+
+/// The settlement that the proved market holds, from its file.
+pub fn held_settlement(list: &[u16], ticket: &Ticket) -> Settlement {
     let mut file = [0; 1027];
     let length = proved::market_settlement(list, &mut file);
-    let settlement = Settlement::read(&file[..length.expect("it has room")], &ticket);
-    assert_sound(&ticket, &settlement.expect("it is a settlement"));
+    let settlement = Settlement::read(&file[..length.expect("it has room")], ticket);
+    settlement.expect("it is a settlement")
 }
 
 fn number(answer: Result<(), Refusal>) -> Result<(), u8> {
@@ -102,28 +111,31 @@ fn calls_agree() {
             }
             tally.compared(kind.name());
             tally.answered(answer);
-            let [ticket, settlement] = changed(&before, &list);
-            tally.kind_if(ticket, TICKET_CHANGED);
-            tally.kind_if(settlement, SETTLEMENT_CHANGED);
+            for (part, name) in PARTS {
+                tally.kind_if(before[part.clone()] != list[part], name);
+            }
         }
     }
     tally.report("calls, one by one");
     tally.expect_refusals([19, 20]);
-    tally.expect_at_least(MARKETS as u64, TICKET_CHANGED);
-    tally.expect_at_least(MARKETS as u64, SETTLEMENT_CHANGED);
+    for (_, name) in PARTS {
+        tally.expect_at_least(MARKETS as u64, name);
+    }
 }
 
-const TICKET_CHANGED: &str = "the ticket changed";
-const SETTLEMENT_CHANGED: &str = "the settlement changed";
-
-/// Whether the ticket is another one, and the settlement.
-fn changed(before: &[u16], after: &[u16]) -> [bool; 2] {
-    let (ticket, settlement) = before.split_at(TICKET_NUMBERS);
-    [
-        after[..TICKET_NUMBERS] != *ticket,
-        after[TICKET_NUMBERS..] != *settlement,
-    ]
-}
+/// The parts of a market's list, each of which must be met changed.
+const PARTS: [(Range<usize>, &str); 4] = [
+    (0..TICKET_NUMBERS, "the ticket changed"),
+    (TICKET_NUMBERS..GROWER_FREE_HOURS, "the settlement changed"),
+    (
+        GROWER_FREE_HOURS..PILOT_FREE_HOURS,
+        "growers' free hours changed",
+    ),
+    (
+        PILOT_FREE_HOURS..MARKET_NUMBERS,
+        "pilots' free hours changed",
+    ),
+];
 
 /// How a list of calls is given.
 #[derive(Clone, Copy)]
@@ -145,6 +157,15 @@ impl Given {
     }
 }
 
+/// Lengths at which a part of a market ends, and the greatest that is too short.
+const SHORT: [usize; 5] = [
+    0,
+    TICKET_NUMBERS,
+    GROWER_FREE_HOURS,
+    PILOT_FREE_HOURS,
+    MARKET_NUMBERS - 1,
+];
+
 /// Lists of calls, in which some are none. The calls are drawn for the ticket as it is when they are made.
 #[test]
 fn lists_of_calls_agree() {
@@ -158,7 +179,7 @@ fn lists_of_calls_agree() {
         match given {
             Given::Whole => {}
             Given::Cut => calls.truncate(calls.len().saturating_sub(1 + generator.below(7))),
-            Given::ShortMarket => list.truncate(generator.one_of(&[0, 1315, MARKET_NUMBERS - 1])),
+            Given::ShortMarket => list.truncate(generator.one_of(&SHORT)),
         }
         let before = list.clone();
         let answer = proved::call(&mut list, &calls);

@@ -36,6 +36,14 @@ fn print_sheet(market: Market) {
     }
 }
 
+// The market holds them, so that nothing is added up here.
+fn print_free_hours(market: Market) {
+    let ticket = market.ticket;
+    let growers = market.grower_free_hours;
+    let pilots = market.pilot_free_hours;
+    printing::free_hours(&ticket, growers, pilots);
+}
+
 fn print_ticket(market: Market) {
     let ticket = market.ticket;
     printing::ticket(tables::ticket_front(&ticket));
@@ -56,7 +64,7 @@ fn help() {
     );
     say(
         STDOUT_FILENO,
-        b"sheet\nticket\nsave TICKET SETTLEMENT\nhelp\n",
+        b"sheet\nfree\nticket\nsave TICKET SETTLEMENT\nhelp\n",
     );
 }
 
@@ -82,6 +90,7 @@ fn fault_words(fault: Fault) {
 fn show(market: Market, line: &[u8], call: Call) {
     match call {
         Call::Sheet => print_sheet(market),
+        Call::Free => print_free_hours(market),
         Call::Ticket => print_ticket(market),
         Call::Save => save_to(market, word(line, 1), word(line, 2)),
         Call::Help => help(),

@@ -3,7 +3,7 @@
 use mathlib.Core.Path.{_≡_, refl}
 use mathlib.Core.List.{[], _∷_}
 use Rattle.grid.specs.First.{first}
-use Rattle.desk_calls.specs.declared.call.Call.the-variants.{Nothing, GrowerHours, PilotHours, Pair, NoCall}
+use Rattle.desk_calls.specs.declared.call.Call.the-variants.{Nothing, GrowerHours, PilotHours, Pair, Free, NoCall}
 use Rattle.desk_calls.specs.declared.call.Fault.the-variants.{NoSuchCall, WordCount, NoHours, NoNumber}
 use Rattle.desk_calls.specs.Words.{word, same}
 use Rattle.desk_calls.specs.Numbers.{withDigits}
@@ -29,6 +29,11 @@ pub pair-terms : callOf (112 ∷ 97 ∷ 105 ∷ 114 ∷ 32 ∷ 49 ∷ 32 ∷ 50 
 unfolding first word same withDigits
 pair-terms = refl
 
+-- `free ` and a carriage return
+pub free-hours : callOf (102 ∷ 114 ∷ 101 ∷ 101 ∷ 32 ∷ 13 ∷ []) ≡ Free
+unfolding first word same withDigits
+free-hours = refl
+
 -- `pilot 0 hours 65536`
 pub too-large : callOf (112 ∷ 105 ∷ 108 ∷ 111 ∷ 116 ∷ 32 ∷ 48 ∷ 32 ∷ 104 ∷ 111 ∷ 117 ∷ 114 ∷ 115 ∷ 32 ∷ 54 ∷ 53 ∷ 53 ∷ 51 ∷ 54 ∷ []) ≡ NoCall NoNumber
 unfolding first word same withDigits
@@ -48,6 +53,11 @@ word-missing = refl
 pub word-too-many : callOf (115 ∷ 104 ∷ 101 ∷ 101 ∷ 116 ∷ 32 ∷ 49 ∷ []) ≡ NoCall WordCount
 unfolding first word same withDigits
 word-too-many = refl
+
+-- `free x`
+pub free-word-too-many : callOf (102 ∷ 114 ∷ 101 ∷ 101 ∷ 32 ∷ 120 ∷ []) ≡ NoCall WordCount
+unfolding first word same withDigits
+free-word-too-many = refl
 
 -- `grower 1 for 2`
 pub other-word : callOf (103 ∷ 114 ∷ 111 ∷ 119 ∷ 101 ∷ 114 ∷ 32 ∷ 49 ∷ 32 ∷ 102 ∷ 111 ∷ 114 ∷ 32 ∷ 50 ∷ []) ≡ NoCall NoHours

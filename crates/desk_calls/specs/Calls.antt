@@ -5,7 +5,7 @@ use mathlib.Core.Bool.{Bool, true, false, cond, not, _&&_}
 use mathlib.Core.List.{List, [], _∷_}
 use lib.Dec.{ltb}
 use Rattle.desk_calls.specs.declared.call.Call.{Call}
-use Rattle.desk_calls.specs.declared.call.Call.the-variants.{Nothing, GrowerHours, PilotHours, Pair, Sheet, Ticket, Save, Help, NoCall}
+use Rattle.desk_calls.specs.declared.call.Call.the-variants.{Nothing, GrowerHours, PilotHours, Pair, Sheet, Free, Ticket, Save, Help, NoCall}
 use Rattle.desk_calls.specs.declared.call.Fault.the-variants.{NoSuchCall, WordCount, NoHours, NoNumber}
 use Rattle.desk_calls.specs.Words.{word, same}
 use Rattle.desk_calls.specs.Numbers.{numberAt}
@@ -25,6 +25,9 @@ pair = 112 ∷ 97 ∷ 105 ∷ 114 ∷ []
 
 abbrev pub sheet : List ℕ
 sheet = 115 ∷ 104 ∷ 101 ∷ 101 ∷ 116 ∷ []
+
+abbrev pub free : List ℕ
+free = 102 ∷ 114 ∷ 101 ∷ 101 ∷ []
 
 abbrev pub ticket : List ℕ
 ticket = 116 ∷ 105 ∷ 99 ∷ 107 ∷ 101 ∷ 116 ∷ []
@@ -79,9 +82,10 @@ pairCall line =
 abbrev pub plainCall : List ℕ → List ℕ → Call
 plainCall name line =
     cond (same name sheet) (ending line 0 Sheet)
+    (cond (same name free) (ending line 0 Free)
     (cond (same name ticket) (ending line 0 Ticket)
     (cond (same name save) (ending line 2 Save)
-    (cond (same name help) (ending line 0 Help) (NoCall NoSuchCall))))
+    (cond (same name help) (ending line 0 Help) (NoCall NoSuchCall)))))
 
 -- any call, by its first word
 abbrev pub namedCall : List ℕ → List ℕ → Call

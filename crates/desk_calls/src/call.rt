@@ -31,6 +31,7 @@ pub enum Call {
         joint_gain: u16,
     },
     Sheet,
+    Free,
     Ticket,
     Save,
     Help,
@@ -191,6 +192,9 @@ fn plain_call(name: &[u8], line: &[u8]) -> Call
 {
     if same(name, b"sheet") {
         return ending(line, 0, Call::Sheet);
+    }
+    if same(name, b"free") {
+        return ending(line, 0, Call::Free);
     }
     if same(name, b"ticket") {
         return ending(line, 0, Call::Ticket);

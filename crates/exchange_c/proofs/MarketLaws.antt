@@ -3,11 +3,11 @@
 use Prim.Native.Nat.{ℕ, _≤_, _<_}
 use mathlib.Core.Bool.{Bool, true, false, cond}
 use mathlib.Core.Logic.{⊎-elim}
-use mathlib.Core.Path.{_≡_, ap, _∙_}
+use mathlib.Core.Path.{_≡_, refl, sym, subst, ap, _∙_}
 use mathlib.Core.List.{List, []}
 use native.Mathlib.Omega.{arith}
 use lib.Dec.{eqb}
-use lib.ListN.{length, drop, replicate, length-append, length-take, length-replicate}
+use lib.ListN.{length, drop, replicate, length-take, length-replicate}
 use lib.Seq.{length-sets}
 use Rattle.grid.proofs.Cases.{lt-or-le}
 use Rattle.reader.specs.declared.Reply.{Reply}
@@ -18,47 +18,45 @@ use Rattle.groups.specs.Groups.{bytes}
 use Rattle.documents.proofs.WalkLaws.{form-accepts}
 use Rattle.reader.proofs.Facts.{settlement-packed-read}
 use Rattle.tables.specs.View.{growersOf, pilotsOf, settlementFront, settlementLength}
-use Rattle.open_market.specs.declared.held.Market.{Market}
 use Rattle.open_market.specs.declared.held.Answer.{Answer}
 use Rattle.open_market.specs.Markets.{openedAs}
-use Rattle.market_lists.specs.Lent.{numbersIn, marketIn, OpenedIn, CalledIn, fileOf, WrittenFrom}
+use Rattle.market_lists.specs.Lent.{marketLength, numbersIn, marketIn, OpenedIn, CalledIn, fileOf, WrittenFrom}
+use Rattle.market_lists.proofs.LentLaws.{Lengths, numbers-long}
 use Rattle.exchange_c.specs.Replies.{replyOf, Small, NumberOf}
 use Rattle.exchange_c.proofs.ReplyLaws.{reply-small, number-tells, gives-short}
 
--- A market that was opened has 2,086 numbers, whatever the ticket.
-opened-long : (o : Outcome) (answer : Answer) → openedAs o answer → length (numbersIn (answer .market)) ≡ 2086
-opened-long (Refusal w) answer s =
-    omega (
-      arith,
-      length-append (answer .market .ticket) (answer .market .settlement),
-      ap (λ (m : Market). length (m .ticket)) (s .1) ∙ length-replicate {A = ℕ} 1315 0,
-      ap (λ (m : Market). length (m .settlement)) (s .1) ∙ length-replicate {A = ℕ} 771 0,
-    )
-opened-long (Numbers xs) answer s =
-    omega (
-      arith,
-      length-append (answer .market .ticket) (answer .market .settlement),
-      ap length (s .1) ∙ length-sets (replicate {A = ℕ} 1315 0) 0 xs ∙ length-replicate {A = ℕ} 1315 0,
-      s .2 .long,
-    )
+-- A market that was opened has as many numbers as every market, whatever the ticket.
+opened-lengths : (o : Outcome) (answer : Answer) → openedAs o answer → Lengths (answer .market)
+opened-lengths (Refusal w) answer s = subst Lengths (sym (s .1)) (record {
+  ticketLong = length-replicate {A = ℕ} 1315 0;
+  settlementLong = length-replicate {A = ℕ} 771 0;
+  growersLong = refl;
+  pilotsLong = refl;
+})
+opened-lengths (Numbers xs) answer s = record {
+  ticketLong = ap length (s .ticketHeld) ∙ length-sets (replicate {A = ℕ} 1315 0) 0 xs ∙ length-replicate {A = ℕ} 1315 0;
+  settlementLong = s .market .settled .long;
+  growersLong = s .market .free .growersIn .row .long;
+  pilotsLong = s .market .free .pilotsIn .row .long;
+}
 
 pub open-small : (file lent after : List ℕ) (r : Reply) → OpenedIn file lent after r → Small r
 open-small file lent after r o =
     rw (o .tells .reply) (go (eqb (o .answer .refusal) 0) (o .answer .refusal) (numbersIn (o .answer .market))
-    (opened-long (unpacked file) (o .answer) (o .opened)))
+    (numbers-long _ (opened-lengths (unpacked file) (o .answer) (o .opened))))
   where
-    go : (b : Bool) (w : ℕ) (xs : List ℕ) → length xs ≡ 2086 → Small (reply (length lent) (cond b (Numbers xs) (Refusal w)))
+    go : (b : Bool) (w : ℕ) (xs : List ℕ) → length xs ≡ marketLength → Small (reply (length lent) (cond b (Numbers xs) (Refusal w)))
     go true w xs long = reply-small (length lent) (Numbers xs) (λ ys e. let d : xs ≡ ys = cc in omega (arith, long, ap length d))
     go false w xs long = tt
 
--- Calls answer 2,086 or a refusal.
+-- Calls answer the length of a market, or a refusal.
 pub call-small : (calls lent after : List ℕ) (r : Reply) → CalledIn calls lent after r → Small r
 call-small calls lent after r c = ⊎-elim
     (λ h. rw (c .short h .0 .reply) tt)
     (λ h. let d = c .done h in rw (d .tells .reply) (go (eqb (d .answer .refusal) 0) (d .answer .refusal)))
-    (lt-or-le (length lent) 2086)
+    (lt-or-le (length lent) marketLength)
   where
-    go : (b : Bool) (w : ℕ) → Small (cond b (Reply.Done 2086) (Reply.Refused w))
+    go : (b : Bool) (w : ℕ) → Small (cond b (Reply.Done marketLength) (Reply.Refused w))
     go true w = omega arith
     go false w = tt
 
@@ -79,7 +77,7 @@ settlement-small list lent after r w = ⊎-elim
     (λ h. rw (w .short h .0 .reply) tt)
     (λ h. rw (w .written h .0 .reply) (reply-small (length lent) (fileOf (marketIn list .settlement))
     (λ s e. file-short (marketIn list .settlement) s (omega (arith, length-take 771 (drop 1315 list))) e)))
-    (lt-or-le (length list) 2086)
+    (lt-or-le (length list) marketLength)
 
 -- Nothing is lost: the number that C gets tells the reply.
 pub open-told : (file lent after : List ℕ) (number : ℕ) → NumberOf (OpenedIn file lent after) number →

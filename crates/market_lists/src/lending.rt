@@ -1,6 +1,7 @@
 // Opening a market into a list, and calls on it there.
 ghost use Rattle.market_lists.specs.Lent.{OpenedIn, CalledIn, WrittenFrom};
 use crate::MARKET;
+use crate::copying::GROWERS;
 use crate::copying::SETTLEMENT;
 use crate::copying::held;
 use crate::copying::hold;
@@ -47,7 +48,7 @@ pub fn write_settlement(list: &[u16], file: &mut [u8]) -> Reply
     if list.len() < MARKET {
         return Reply::Refused { why: NO_ROOM };
     }
-    let settlement = &list[SETTLEMENT..MARKET];
+    let settlement = &list[SETTLEMENT..GROWERS];
     reader::write_settlement(
         tables::settlement_front(settlement),
         tables::growers(settlement),

@@ -11,7 +11,8 @@ use lib.Seq.{sets, length-sets, take-at}
 use Rattle.grid.proofs.Cases.{eq-or-ne}
 use Rattle.numbers.proofs.Products.{prod-small}
 use Rattle.groups.specs.Groups.{pack}
-use Rattle.market.specs.Market.{Sound}
+use Rattle.market.specs.Market.{Ticket, Settlement, Sound}
+use Rattle.market.specs.Same.{SameSettlement}
 use Rattle.market.proofs.Same.{sound-same}
 use Rattle.market.proofs.Gains.{nothing-blocks-iff}
 use Rattle.reader.specs.Walk.{Numbers}
@@ -22,20 +23,22 @@ use Rattle.tables.specs.View.{growersOf, pilotsOf, ticketOf, firstSixteen, sett
 use Rattle.marker.proofs.Marking.{sound-files-marked}
 use Rattle.settler.specs.SettledList.{SettledList}
 use Rattle.settler.specs.Numbers.{IsTicket, SoundFront}
-use Rattle.settler.proofs.SettlementNumbers.{sound-front}
+use Rattle.settler.proofs.SettlementNumbers.{itself, front-means, nobody-left, sound-front}
+use Rattle.free_hours.specs.FreeHours.{AreFree}
+use Rattle.free_hours.proofs.FreeLaws.{free-same}
 use Rattle.open_market.specs.declared.held.Market.{Market}
 use Rattle.open_market.specs.declared.held.Answer.{Answer}
 use Rattle.ticket_calls.specs.Calls.{Call, changed, refusalOf, after, afterAll}
-use Rattle.open_market.specs.Markets.{Opened, Called, Reached, Holds}
+use Rattle.open_market.specs.Markets.{IsSettled, Opened, Called, Reached, Holds}
 use Rattle.ticket_calls.proofs.TicketChanges.{changed-passing}
 use Rattle.ticket_calls.proofs.Fronts.{changed-head, changed-long, changed-take, front-growers, front-pilots, same-refusal, front-same}
 
--- The numbers of the ticket xs stand in front, they pass the ticket's checks, and the settlement is one of the list.
+-- The numbers of the ticket xs stand in front, they pass the ticket's checks, and the market is settled.
 pub record Holding (xs : List ℕ) (market : Market) : Type 0 where
   pub long : length (market .ticket) ≡ 1315
   pub front : ticketFront (market .ticket) ≡ xs
   pub passing : Passing xs
-  pub settled : SettledList (market .ticket) (market .settlement)
+  pub settled : IsSettled market
 
 -- A call.
 module _ (c : Call) (xs : List ℕ) (market : Market) (r : Answer) (holding : Holding xs market) (called : Called c market r) where
@@ -71,7 +74,7 @@ module _ (c : Call) (xs : List ℕ) (market : Market) (r : Answer) (holding : Ho
         long = ap length t ∙ holding .long;
         front = ap ticketFront t ∙ holding .front ∙ sym a;
         passing = subst Passing (sym a) (holding .passing);
-        settled = rw (t, called .kept (omega (arith, e))) (holding .settled);
+        settled = subst IsSettled (sym (called .kept (omega (arith, e)))) (holding .settled);
       }
 
   call-holding : Holding (after c xs) (r .market)
@@ -108,13 +111,16 @@ opened-holding file xs zeros r z e opened =
     let o = rw e at opened in
     let w = unpacked-passing file xs e in
     let long : length zeros ≡ 1315 = ap length z ∙ length-replicate {A = ℕ} 1315 0 in
-    let t : r .market .ticket ≡ sets zeros 0 xs = o .1 ∙ ap (λ (l : List ℕ). sets l 0 xs) (sym z) in
+    let t : r .market .ticket ≡ sets zeros 0 xs = o .ticketHeld ∙ ap (λ (l : List ℕ). sets l 0 xs) (sym z) in
     record {
       long = ap length t ∙ length-sets zeros 0 xs ∙ long;
       front = written-ticket xs zeros (r .market .ticket) w long t;
       passing = w;
-      settled = o .2;
+      settled = o .market;
     }
+
+settlement-itself : (t : Ticket) (x : Settlement) → SameSettlement t x x
+settlement-itself t x = record { hours = λ d i j hi hj. refl; pay = λ i j hi hj. refl }
 
 -- What is held.
 module _ (xs : List ℕ) (market : Market) (h : Holding xs market) where
@@ -123,25 +129,40 @@ module _ (xs : List ℕ) (market : Market) (h : Holding xs market) where
 
   settled-front : SettledList xs (market .settlement)
   settled-front = subst (λ (l : List ℕ). SettledList l (market .settlement)) (h .front) (record {
-    long = h .settled .long;
-    kind = h .settled .kind;
-    growers = h .settled .growers ∙ ap (min 16) (sym (front-growers (market .ticket)));
-    pilots = h .settled .pilots ∙ ap (min 16) (sym (front-pilots (market .ticket)));
-    rest = h .settled .rest;
+    long = s .long;
+    kind = s .kind;
+    growers = s .growers ∙ ap (min 16) (sym (front-growers (market .ticket)));
+    pilots = s .pilots ∙ ap (min 16) (sym (front-pilots (market .ticket)));
+    rest = s .rest;
     sound = sound;
     nobodyGains = nothing-blocks-iff _ _ .0 (sound .nothingBlocks);
   })
     where
+      s : SettledList (market .ticket) (market .settlement)
+      s = h .settled .settled
+
       sound : Sound (firstSixteen (ticketOf (ticketFront (market .ticket)))) (settlementOf (market .settlement))
-      sound = sound-same (front-same (market .ticket)) (record { hours = λ d i j hi hj. refl; pay = λ i j hi hj. refl }) (h .settled .sound)
+      sound = sound-same (front-same (market .ticket)) (settlement-itself _ _) (s .sound)
 
   f : SoundFront xs (market .settlement)
   f = sound-front xs (market .settlement) is settled-front
+
+  abbrev Free : Ticket → Settlement → Type 0
+  Free t x = AreFree t x (market .«grower_free_hours») (market .«pilot_free_hours»)
+
+  free-front : Free (ticketOf xs) (settlementOf (settlementFront (market .settlement)))
+  free-front =
+      let s = settlementOf (market .settlement) in
+      let a = free-same (front-same (market .ticket)) (settlement-itself _ s) _ _ (h .settled .free) in
+      let b = subst (λ (l : List ℕ). Free (firstSixteen (ticketOf l)) s) (h .front) a in
+      free-same (itself _) (front-means xs (market .settlement) is settled-front) _ _
+      (free-same (nobody-left xs (market .settlement) is settled-front) (settlement-itself _ s) _ _ b)
 
   pub holding-holds : Holds xs market
   holding-holds = record {
     ticket = h .front;
     good = f .good;
+    free = free-front;
     file = pack xs;
     packs = passing-packed xs (h .passing);
     unpacks = passing-unpacked xs (h .passing);

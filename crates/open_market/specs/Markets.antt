@@ -9,7 +9,8 @@ use Rattle.checks.specs.Refusals.{first}
 use Rattle.market.specs.Totals.{promisedWorth}
 use Rattle.reader.specs.Walk.{Outcome, Refusal, Numbers}
 use Rattle.reader.specs.Answer.{unpacked, packed, settlementPacked}
-use Rattle.tables.specs.View.{growersOf, pilotsOf, ticketOf, settlementOf, ticketFront, settlementFront}
+use Rattle.tables.specs.View.{growersOf, pilotsOf, ticketOf, firstSixteen, settlementOf, ticketFront, settlementFront}
+use Rattle.free_hours.specs.FreeHours.{AreFree}
 use Rattle.verdicts.specs.declared.Verdict.{Verdict}
 use Rattle.marker.specs.Marked.{marked}
 use Rattle.settler.specs.Settled.{SoundNumbers}
@@ -21,28 +22,44 @@ use Rattle.open_market.specs.Lists.{callsOf}
 
 -- The market of nobody.
 abbrev pub nobody : Market
-nobody = record { ticket = replicate 1315 0; settlement = replicate 771 0 }
+nobody = record {
+  ticket = replicate 1315 0;
+  settlement = replicate 771 0;
+  «grower_free_hours» = replicate 16 0;
+  «pilot_free_hours» = replicate 16 0;
+}
 
--- Opening: a ticket's refusal and the market of nobody, or the ticket's numbers with zeros after them, and a settlement of them.
+-- A market that is settled: it holds a settlement of its ticket, and the free hours are everybody's hours less those in that settlement.
+pub record IsSettled (market : Market) : Type 0 where
+  pub settled : SettledList (market .ticket) (market .settlement)
+  pub free : AreFree (firstSixteen (ticketOf (market .ticket))) (settlementOf (market .settlement))
+      (market .«grower_free_hours») (market .«pilot_free_hours»)
+
+-- A ticket is accepted, and settled.
+pub record Settled (ticket : List ℕ) (r : Answer) : Type 0 where
+  pub refusal : r .refusal ≡ 0
+  pub ticketHeld : r .market .ticket ≡ ticket
+  pub market : IsSettled (r .market)
+
+-- Opening: a ticket's refusal and the market of nobody, or the ticket's numbers with zeros after them, settled.
 abbrev pub openedAs : Outcome → Answer → Type 0
 openedAs (Refusal w) r = (r .refusal ≡ w) × (r .market ≡ nobody)
-openedAs (Numbers xs) r =
-    (r .refusal ≡ 0) × (r .market .ticket ≡ sets (replicate 1315 0) 0 xs) × SettledList (r .market .ticket) (r .market .settlement)
+openedAs (Numbers xs) r = Settled (sets (replicate 1315 0) 0 xs) r
 
 abbrev pub Opened : List ℕ → Answer → Type 0
 Opened file r = openedAs (unpacked file) r
 
--- The answer by a refusal and a ticket after it: the market as it was, or that ticket and a settlement of it.
+-- The answer by a refusal and a ticket after it: the market as it was, or that ticket, settled.
 pub record Answered (refusal : ℕ) (market : Market) (ticket : List ℕ) (r : Answer) : Type 0 where
   pub refused : 0 < refusal → (r .refusal ≡ refusal) × (r .market ≡ market)
-  pub accepted : refusal ≡ 0 → (r .refusal ≡ 0) × (r .market .ticket ≡ ticket) × SettledList ticket (r .market .settlement)
+  pub accepted : refusal ≡ 0 → Settled ticket r
 
--- A call: a refused one leaves ticket and settlement, an accepted one a settlement of the ticket after it.
+-- A call: a refused one leaves the market as it was, an accepted one the ticket after it, settled.
 pub record Called (c : Call) (market : Market) (r : Answer) : Type 0 where
   pub refusal : r .refusal ≡ refusalOf c (market .ticket)
   pub ticket : r .market .ticket ≡ after c (market .ticket)
-  pub kept : 0 < refusalOf c (market .ticket) → r .market .settlement ≡ market .settlement
-  pub settled : refusalOf c (market .ticket) ≡ 0 → SettledList (r .market .ticket) (r .market .settlement)
+  pub kept : 0 < refusalOf c (market .ticket) → r .market ≡ market
+  pub settled : refusalOf c (market .ticket) ≡ 0 → IsSettled (r .market)
 
 -- One call more, after others that came to an answer: the first refusal stays.
 pub record Next (c : Call) (before r : Answer) : Type 0 where
@@ -56,11 +73,14 @@ abbrev pub Reached : Market → List Call → Market → Type 0
 Reached market [] last = market ≡ last
 Reached market (c ∷ cs) last = (r : Answer) × Called c market r × Reached (r .market) cs last
 
--- A market that holds the ticket xs: its numbers are a file that unpacks to them, so they pass the ticket's checks; and the settlement's
--- numbers are a sound settlement of it, whose file marking finds sound, having looked at all deals.
+-- A market that holds the ticket xs: its numbers are a file that unpacks to them, so they pass the ticket's checks; the settlement's
+-- numbers are a sound settlement of it, whose file marking finds sound, having looked at all deals; and each figure of free hours is the
+-- party's hours less those in that settlement.
 pub record Holds (xs : List ℕ) (market : Market) : Type 0 where
   pub ticket : ticketFront (market .ticket) ≡ xs
   pub good : SoundNumbers xs (settlementFront (market .settlement))
+  pub free : AreFree (ticketOf xs) (settlementOf (settlementFront (market .settlement)))
+      (market .«grower_free_hours») (market .«pilot_free_hours»)
   pub file : List ℕ
   pub packs : packed xs ≡ Numbers file
   pub unpacks : unpacked file ≡ Numbers xs

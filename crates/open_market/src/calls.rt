@@ -4,7 +4,7 @@ ghost use Rattle.ticket_calls.specs.Calls.{SetHours, SetPair};
 ghost use Rattle.open_market.specs.Markets.{Answered, Called};
 use crate::held::Answer;
 use crate::held::Market;
-use crate::held::accepted;
+use crate::held::settled;
 use offers::Terms;
 use ticket_calls::Party;
 
@@ -15,8 +15,7 @@ fn answer(refusal: u8, market: Market, ticket: [u16; 1315]) -> Answer
     if 0 < refusal {
         return Answer { refusal, market };
     }
-    let settlement = settler::settle_list(&ticket);
-    accepted(ticket, settlement)
+    settled(ticket)
 }
 
 fn set_hours(market: Market, party: Party, hours: u16) -> Answer

@@ -2,7 +2,7 @@
 ghost use Rattle.open_market.specs.Markets.{Opened};
 use crate::held::Answer;
 use crate::held::Market;
-use crate::held::accepted;
+use crate::held::settled;
 use reader::Reply;
 
 // Opens a market. A ticket that is refused opens that of nobody.
@@ -14,15 +14,17 @@ pub fn open(file: &[u8]) -> Answer
     match reply {
         Reply::Refused { why } => {
             let settlement = numbers::settlement_list();
-            let market = Market { ticket, settlement };
+            let market = Market {
+                ticket,
+                settlement,
+                grower_free_hours: [0; 16],
+                pilot_free_hours: [0; 16],
+            };
             Answer {
                 refusal: why,
                 market,
             }
         }
-        Reply::Done { count: _ } => {
-            let settlement = settler::settle_list(&ticket);
-            accepted(ticket, settlement)
-        }
+        Reply::Done { count: _ } => settled(ticket),
     }
 }

@@ -1,4 +1,5 @@
 // What is held between calls, beside what the paper says is held; and both after one more call.
+use super::free::compare_free_hours;
 use super::judged::judged;
 use super::paper::GROWER;
 use super::paper::PAIR;
@@ -42,9 +43,23 @@ fn same_settlement(list: &[u16; 771], other: &[u16; 771]) -> bool {
     differ == 0
 }
 
+fn same_row(row: &[u16; 16], other: &[u16; 16]) -> bool {
+    let mut differ: u16 = 0;
+    for place in 0..16usize {
+        differ = differ | (row[place] ^ other[place]);
+    }
+    differ == 0
+}
+
+fn same_free_hours(market: Market, other: Market) -> bool {
+    same_row(&market.grower_free_hours, &other.grower_free_hours)
+        && same_row(&market.pilot_free_hours, &other.pilot_free_hours)
+}
+
 pub(crate) fn is_same(market: Market, other: Market) -> bool {
     same_ticket(&market.ticket, &other.ticket)
         && same_settlement(&market.settlement, &other.settlement)
+        && same_free_hours(market, other)
 }
 
 // A small ticket's numbers and the three of each pair's agreement, each with 0 after them.
@@ -65,16 +80,17 @@ fn settlement_held(settlement: &[u16; 771]) -> [u16; 771] {
     list
 }
 
-// The ticket's numbers, and 0 after them; 0 after those of the settlement.
-pub(crate) fn compare_lists(market: Market, ticket: &[u16; 27], tally: &mut [usize; 17]) {
+// The ticket's numbers, and 0 after them; 0 after those of the settlement; everybody's free hours.
+pub(crate) fn compare_market(market: Market, ticket: &[u16; 27], tally: &mut [usize; 17]) {
     let known = ticket_held(ticket);
     if !same_ticket(&market.ticket, &known) {
         count(&mut *tally, OTHER_TICKET);
     }
     let front = settlement_held(&market.settlement);
     if !same_settlement(&market.settlement, &front) {
-        count(tally, NUMBERS_LEFT);
+        count(&mut *tally, NUMBERS_LEFT);
     }
+    compare_free_hours(market, ticket, tally);
 }
 
 fn place_of(refusal: u8) -> usize {
@@ -93,7 +109,7 @@ fn compare(before: Market, answer: Answer, told: Told, tally: &mut [usize; 17]) 
     }
     let after = answer.market;
     let ticket = told.ticket;
-    compare_lists(after, &ticket, &mut *tally);
+    compare_market(after, &ticket, &mut *tally);
     if told.refusal == 0 {
         count(tally, judged(&ticket, after));
     } else if !is_same(before, after) {

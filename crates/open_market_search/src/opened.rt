@@ -1,7 +1,7 @@
 // A market opened from a ticket, or refused.
 use super::calls::Which;
 use super::held::Held;
-use super::held::compare_lists;
+use super::held::compare_market;
 use super::held::is_same;
 use super::judged::judged;
 use super::lists::every;
@@ -29,7 +29,12 @@ fn numbers_of(file: &[u8; 27]) -> [u16; 27] {
 fn nobody() -> Market {
     let ticket = numbers::ticket_list();
     let settlement = numbers::settlement_list();
-    Market { ticket, settlement }
+    Market {
+        ticket,
+        settlement,
+        grower_free_hours: [0; 16],
+        pilot_free_hours: [0; 16],
+    }
 }
 
 // A refused ticket opens a market of zeros.
@@ -49,7 +54,7 @@ fn compare_opened(answer: Answer, ticket: &[u16; 27], tally: &mut [usize; 17]) {
         count(&mut *tally, OTHER_ANSWER);
     }
     let market = answer.market;
-    compare_lists(market, ticket, &mut *tally);
+    compare_market(market, ticket, &mut *tally);
     count(tally, judged(ticket, market));
 }
 

@@ -52,7 +52,7 @@ fn pairs_begin(ticket: &[u16]) -> usize
 }
 
 // How many pairs there are of so many growers, and so before a grower's own.
-fn pairs_of(ticket: &[u16], growers: usize) -> usize
+pub(crate) fn pairs_of(ticket: &[u16], growers: usize) -> usize
     requires { ⌜ growers < 65536 ⌝ }
     ensures { λ r. ⌜ r ≤ growers + growers ⌝ }
 {
@@ -86,7 +86,7 @@ fn pilot_at(ticket: &[u16], pair: usize) -> usize {
 }
 
 // Whether a pair is one of a party's: a grower's, or a pilot's.
-fn is_of(ticket: &[u16], pair: usize, kind: u16, party: usize) -> bool {
+pub(crate) fn is_of(ticket: &[u16], pair: usize, kind: u16, party: usize) -> bool {
     if kind == GROWER {
         grower_at(ticket, pair) == party
     } else {
@@ -104,7 +104,7 @@ fn clear(ticket: &mut [u16; 27], kind: u16, party: usize) {
     }
 }
 
-fn is_there(ticket: &[u16], kind: u16, party: usize) -> bool {
+pub(crate) fn is_there(ticket: &[u16], kind: u16, party: usize) -> bool {
     if kind == GROWER {
         party < growers(ticket)
     } else {
@@ -112,7 +112,7 @@ fn is_there(ticket: &[u16], kind: u16, party: usize) -> bool {
     }
 }
 
-fn hours_place(ticket: &[u16], kind: u16, party: usize) -> usize
+pub(crate) fn hours_place(ticket: &[u16], kind: u16, party: usize) -> usize
     requires { ⌜ party < 65536 ⌝ }
     ensures { λ r. ⌜ r < 65600 ⌝ }
 {

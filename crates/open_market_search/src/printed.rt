@@ -2,11 +2,13 @@
 use super::tally::ACCEPTED;
 use super::tally::AGAINST_LIMITS;
 use super::tally::CHANGED;
+use super::tally::COMPARED;
 use super::tally::CUT;
 use super::tally::MARKED_SOUND;
 use super::tally::NO_PARTY;
 use super::tally::NUMBERS_LEFT;
 use super::tally::OTHER_ANSWER;
+use super::tally::OTHER_FREE_HOURS;
 use super::tally::OTHER_REPLAY;
 use super::tally::OTHER_TICKET;
 use super::tally::REFUSED;
@@ -52,6 +54,15 @@ fn settlements(counts: [usize; 17]) {
     line(counts[NUMBERS_LEFT], b"with numbers after their end");
 }
 
+fn free_hours(counts: [usize; 17]) {
+    text(b"free hours held\n");
+    line(
+        counts[COMPARED],
+        b"compared with sums over the deals of the settlement",
+    );
+    line(counts[OTHER_FREE_HOURS], b"with another figure");
+}
+
 fn replays(counts: [usize; 17]) {
     text(b"lists replayed\n");
     line(counts[REPLAYED], b"whole");
@@ -67,5 +78,6 @@ pub(crate) fn tally(grid: &[u8], counts: [usize; 17]) {
     calls(counts);
     differences(counts);
     settlements(counts);
+    free_hours(counts);
     replays(counts);
 }

@@ -25,14 +25,19 @@ pub(crate) const REPLAYED: usize = 8;
 
 pub(crate) const CUT: usize = 9;
 
+// Markets whose free hours were compared with sums over the deals.
+pub(crate) const COMPARED: usize = 10;
+
 // What must not be: another answer than by the paper, another ticket held, something after the numbers of the settlement, a refused call
-// that changes the market, another answer or market of `replay`.
-pub(crate) const OTHER_ANSWER: usize = 10;
+// that changes the market, another answer or market of `replay`, other free hours.
+pub(crate) const OTHER_ANSWER: usize = 11;
 
-pub(crate) const OTHER_TICKET: usize = 11;
+pub(crate) const OTHER_TICKET: usize = 12;
 
-pub(crate) const NUMBERS_LEFT: usize = 12;
+pub(crate) const NUMBERS_LEFT: usize = 13;
 
-pub(crate) const CHANGED: usize = 13;
+pub(crate) const CHANGED: usize = 14;
 
-pub(crate) const OTHER_REPLAY: usize = 14;
+pub(crate) const OTHER_REPLAY: usize = 15;
+
+pub(crate) const OTHER_FREE_HOURS: usize = 16;

@@ -1,6 +1,7 @@
-// What the programs print of a ticket: its numbers with words, its sheet, or its refusal. What is printed no contract can say: the
-// functions here are proved safe, and held to the stored output of the programs above them.
+// What the programs print of a ticket: its numbers with words, its sheet, everybody's free hours, or its refusal. What is printed no
+// contract can say: the functions here are proved safe, and held to the stored output of the programs above them.
 mod layout;
+mod rows;
 
 use files::counted;
 use files::end_line;
@@ -9,6 +10,7 @@ pub use layout::ticket;
 use libc::STDERR_FILENO;
 use libc::STDOUT_FILENO;
 use reader::Reply;
+pub use rows::free_hours;
 
 // The number of a refusal, alone for other programs to read; the reason is on standard error.
 pub fn refused(why: u8) {

@@ -65,7 +65,7 @@ settled-list xs t same tariffHours freeDealHours pay s list long n m en em l = r
     sound : Sound (firstSixteen (ticketOf xs)) (settlementOf list)
     sound = sound-same same (list-same l t (omega (arith, same .growers, en)) (omega (arith, same .pilots, em))) s
 
-itself : (t : Ticket) → SameTicket t t
+pub itself : (t : Ticket) → SameTicket t t
 itself t = record {
   growers = refl;
   pilots = refl;
@@ -134,6 +134,16 @@ module _ (xs list : List ℕ) (is : IsTicket xs) (s : SettledList xs list) where
       hours : (d : Deal) (i j : ℕ) → i < n → j < m → settlementOf own .hours d i j ≡ settlementOf list .hours d i j
       hours Tariff i j hi hj = own-pair i j 0 hi hj (omega arith)
       hours Free i j hi hj = own-pair i j 1 hi hj (omega arith)
+
+  -- the front means the same settlement as the list, and of the ticket nobody is left out
+  pub front-means : SameSettlement (ticketOf xs) (settlementOf list) (settlementOf (settlementFront list))
+  front-means = subst (λ (l : List ℕ). SameSettlement (ticketOf xs) (settlementOf list) (settlementOf l)) (sym own-is) own-same
+
+  pub nobody-left : SameTicket (firstSixteen (ticketOf xs)) (ticketOf xs)
+  nobody-left =
+      let g : min 16 (growersOf xs) ≡ growersOf xs = omega (arith, within .growers) in
+      let p : min 16 (pilotsOf xs) ≡ pilotsOf xs = omega (arith, within .pilots) in
+      rw (g, p) (itself (ticketOf xs))
 
   -- hours take one byte each, and pay at most two
   few : (k i j : ℕ) → k < 2 → i < n → j < m → getD list (pairPlace 3 3 k (pilotsOf list) i j) 0 < 128

@@ -40,7 +40,7 @@ returns-4 c =
 
 returns-5 : tie.Need-returns-5
 returns-5 c =
-    let fourth = c .before in
+    let fourth = c .before .before .before .before in
     let third = fourth .before .before .before in
     let second = third .before .before .before in
     let first = second .before .before .before in
@@ -49,6 +49,23 @@ returns-5 c =
       sym (second .before .same2 .ensures) ∙ second .if2 .left,
       sym (third .before .same3 .ensures) ∙ third .if3 .left,
       sym (fourth .before .same4 .ensures) ∙ fourth .if4 .left,
+      sym (c .before .before .same5 .ensures) ∙ c .before .if5 .taken,
+    )
+    (c .ending5 .ensures)
+
+returns-6 : tie.Need-returns-6
+returns-6 c =
+    let fifth = c .before in
+    let fourth = fifth .before .before .before in
+    let third = fourth .before .before .before in
+    let second = third .before .before .before in
+    let first = second .before .before .before in
+    rw (
+      sym (first .before .same .ensures) ∙ first .if1 .left,
+      sym (second .before .same2 .ensures) ∙ second .if2 .left,
+      sym (third .before .same3 .ensures) ∙ third .if3 .left,
+      sym (fourth .before .same4 .ensures) ∙ fourth .if4 .left,
+      sym (fifth .before .same5 .ensures) ∙ fifth .if5 .left,
     )
     (c .no-call .ensures)
 
@@ -72,5 +89,9 @@ plain-call-spec =
     (λ c κs. search needs)
     (λ c κs. search needs)
     returns-4
+    (λ c. search needs)
     (λ c κs. search needs)
-    returns-5)
+    (λ c κs. search needs)
+    returns-5
+    (λ c κs. search needs)
+    returns-6)

@@ -32,7 +32,9 @@ same-length c = c .before .loop .inv .1
 
 returns : tie.Need-returns Inv-loop μ-loop
 returns c =
-    let s = c .before .before in wrote-all (s .args .numbers .now) _ (c .before .loop .inv .2) (c .loop-test .left) .stored
+    let s = c .before .before in
+    let l = c .before .loop .inv in
+    (wrote-all (s .args .numbers .now) _ (l .2) (c .loop-test .left) .stored, l .1)
 
 pub copy-at-spec : {M : Type 1} → statement M
 copy-at-spec =

@@ -2,26 +2,20 @@
 -- Assumes nothing.
 use mathlib.Core.Path.{_≡_}
 use native.Mathlib.Omega.{arith}
-use lib.ListN.{length, length-append}
+use lib.ListN.{length}
 use borrow.Author.Needs.{needs}
-use Rattle.market_lists.specs.Lent.{numbersIn}
-use Rattle.market_lists.proofs.LentLaws.{open-refused, open-short, open-done}
+use Rattle.market_lists.specs.Lent.{marketLength, numbersIn}
+use Rattle.market_lists.proofs.LentLaws.{numbers-long, open-refused, open-short, open-done}
 use Rattle.market_lists.proofs.lending.open.Statement.{statement}
 use Rattle.market_lists.proofs.lending.open.Tie as tie
 
-ticket-long : (c : tie.After-open) → length (c .open .result .market .ticket) ≡ 1315
-ticket-long c = search needs
-
-settlement-long : (c : tie.After-open) → length (c .open .result .market .settlement) ≡ 771
-settlement-long c = search needs
-
-long : (c : tie.After-open) → length (numbersIn (c .open .result .market)) ≡ 2086
-long c = omega (
-  arith,
-  length-append (c .open .result .market .ticket) (c .open .result .market .settlement),
-  ticket-long c,
-  settlement-long c,
-)
+long : (c : tie.After-open) → length (numbersIn (c .open .result .market)) ≡ marketLength
+long c = numbers-long (c .open .result .market) (record {
+  ticketLong = search needs;
+  settlementLong = search needs;
+  growersLong = search needs;
+  pilotsLong = search needs;
+})
 
 returns : tie.Need-returns
 returns c = open-refused _ _ _ (c .before .open .ensures) (c .if1 .taken)

@@ -3,7 +3,6 @@
 use mathlib.Core.Path.{refl}
 use native.Mathlib.Omega.{arith}
 use borrow.Author.Needs.{needs}
-use Rattle.open_market.proofs.CallLaws.{settled-answer}
 use Rattle.open_market.proofs.calls.answer.Statement.{statement}
 use Rattle.open_market.proofs.calls.answer.Tie as tie
 
@@ -11,10 +10,7 @@ returns : tie.Need-returns
 returns c = record { refused = λ h. (refl, refl); accepted = λ z. absurd (omega (arith, c .if1 .taken, z)) }
 
 returns-2 : tie.Need-returns-2
-returns-2 c = record {
-  refused = λ h. absurd (omega arith);
-  accepted = λ z. settled-answer _ _ _ (c .accepted .ensures) (c .before .settle-list .ensures);
-}
+returns-2 c = record { refused = λ h. absurd (omega arith); accepted = λ z. search needs }
 
 pub answer-spec : {M : Type 1} → statement M
-answer-spec = tie.close (tie.spec returns (λ c. search needs) (λ c κs. search needs) (λ c κs. search needs) returns-2)
+answer-spec = tie.close (tie.spec returns (λ c κs. search needs) returns-2)

@@ -1,0 +1,2 @@
+-- The laws of `free_hours`.
+pub mod FreeLaws

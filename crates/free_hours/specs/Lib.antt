@@ -1,0 +1,2 @@
+-- The definitions that the contracts of `free_hours` cite.
+pub mod FreeHours
