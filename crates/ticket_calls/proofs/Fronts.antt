@@ -121,7 +121,7 @@ module _ (l : List ℕ) where
   same-refusal NoCall = refl
 
   -- It means the same market.
-  pair-number : (a i j : ℕ) → a < 5 → i < n → j < m →
+  pub pair-number : (a i j : ℕ) → a < 5 → i < n → j < m →
       getD front (pairPlace (3 + growersOf front + pilotsOf front) 5 a (pilotsOf front) i j) 0 ≡ getD l (pairPlace (3 + n + m) 5 a m i j) 0
   pair-number a i j ha hi hj =
       rw (front-growers, front-pilots) (number (pairPlace (3 + n + m) 5 a m i j) (omega (arith, pair-below n m i j hi hj)))

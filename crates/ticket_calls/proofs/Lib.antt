@@ -6,3 +6,4 @@ pub mod RefusalLaws
 pub mod PairChanges
 pub mod TicketChanges
 pub mod Fronts
+pub mod InFront
