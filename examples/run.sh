@@ -1,7 +1,8 @@
 #!/usr/bin/env bash
-# Builds mark.c and market.c, and a shared object for mark.py, over the proved archive, and runs them on the example files.
+# Builds mark.c, market.c and windows.c, and a shared object for mark.py, over the proved archive, and runs them on the example files.
 # Each says what it must: the verdict, and of a sound settlement its worth, if there is no tariff deal, and the account; of an open
-# market everybody's free hours. So does the program exchange, in its own words; and what its desk saves is what it holds, and sound.
+# market everybody's free hours; of weekly windows the caps that they leave. So does the program exchange, in its own words; and what its
+# desk saves is what it holds, and sound.
 # The exit status is 1 if any does not, or if something cannot be built.
 set -eu
 root=$(cd "$(dirname "$0")/.." && pwd)
@@ -19,8 +20,9 @@ if [ ! -x "$program" ]; then
     (cd "$root" && rt check exchange >/dev/null) || { echo "run.sh: no program"; exit 1; }
 fi
 mkdir -p "$out"
-gcc -std=c11 -O2 -Wall -Wextra -pedantic -Werror -I"$root/include" "$examples/mark.c" "$archive" -o "$out/mark" || exit 1
-gcc -std=c11 -O2 -Wall -Wextra -pedantic -Werror -I"$root/include" "$examples/market.c" "$archive" -o "$out/market" || exit 1
+for name in mark market windows; do
+    gcc -std=c11 -O2 -Wall -Wextra -pedantic -Werror -I"$root/include" "$examples/$name.c" "$archive" -o "$out/$name" || exit 1
+done
 gcc -shared -Wl,--whole-archive "$archive" -Wl,--no-whole-archive -o "$out/libexchange_c.so" || exit 1
 
 passed=0
@@ -80,6 +82,19 @@ answer_at_once() {
     printf '%s\n' "$answer"
     exec {DESK[1]}>&-
     wait
+}
+
+# What `exchange windows` prints for the example week and a list, and then whether there is a new ticket; reasons are on standard error.
+narrowed() {
+    rm -f "$out/new.ticket"
+    "$program" windows "$examples/week.ticket" "$1" "$out/new.ticket" 2>/dev/null
+    [ -e "$out/new.ticket" ] && echo written
+}
+
+# settled_and_marked TICKET
+settled_and_marked() {
+    "$program" settle "$1" "$out/new.settlement"
+    marked "$1" "$out/new.settlement"
 }
 
 expect small small-no_hours "not sound, verdict 7: the tariff deal of grower 0 and pilot 0 is idle"
@@ -146,6 +161,40 @@ compare "market.c week" "$(printf '%s\n' "opened: refusal 0, verdict 1, count 18
     "grower 0 is off: refusal 0, verdict 1, count 18" \
     "free hours: growers 0 0 0, pilots 0 0 1")" "$out/market" "$examples/week.ticket"
 compare "market.c week_pilot_off" "refused with 18" "$out/market" "$examples/week_pilot_off.ticket"
+
+compare "windows.c week" "$(printf '%s\n' "pair 0 0: tariff cap 2, free cap 3 to 1" \
+    "pair 0 1: tariff cap 0, free cap 4 to 3" \
+    "pair 0 2: tariff cap 3 to 0, free cap 2 to 0" \
+    "pair 1 0: tariff cap 3, free cap 0" \
+    "pair 1 1: tariff cap 2, free cap 4 to 1" \
+    "pair 1 2: tariff cap 0, free cap 3 to 1" \
+    "pair 2 0: tariff cap 0, free cap 4 to 0" \
+    "pair 2 1: tariff cap 3 to 0, free cap 2 to 0" \
+    "pair 2 2: tariff cap 2 to 0, free cap 5 to 0" \
+    "settled anew: verdict 1, count 18" \
+    "the last hour is missing: refused with 21" \
+    "a window begins before the last has closed: refused with 22")" "$out/windows" "$examples/week.ticket"
+compare "windows.c week_pilot_off" "refused with 18" "$out/windows" "$examples/week_pilot_off.ticket"
+
+cut=$out/cut.windows
+overlapping=$out/overlapping.windows
+sed '$d' "$examples/week.windows" >"$cut"
+sed 's/53 55 55 57/53 56 55 57/' "$examples/week.windows" >"$overlapping"
+compare "exchange windows: a list that ends early" "REFUSED 21" narrowed "$cut"
+compare "exchange windows: windows that overlap" "REFUSED 22" narrowed "$overlapping"
+compare "exchange windows: the new ticket" written narrowed "$examples/week.windows"
+compare "exchange windows: its numbers" "$("$program" unpack "$examples/week.ticket" | sed '/^pair/d'
+    printf '%s\n' "pair 0 0 tariff cap 2 gains 40 45 free cap 1 gain 90" \
+        "pair 0 1 tariff cap 0 gains 0 0 free cap 3 gain 70" \
+        "pair 0 2 tariff cap 3 gains 50 50 free cap 0 gain 0" \
+        "pair 1 0 tariff cap 0 gains 0 0 free cap 0 gain 0" \
+        "pair 1 1 tariff cap 2 gains 30 55 free cap 0 gain 0" \
+        "pair 1 2 tariff cap 0 gains 0 0 free cap 0 gain 0" \
+        "pair 2 0 tariff cap 0 gains 0 0 free cap 2 gain 100" \
+        "pair 2 1 tariff cap 2 gains 35 30 free cap 0 gain 0" \
+        "pair 2 2 tariff cap 2 gains 45 60 free cap 2 gain 95")" "$program" unpack "$out/new.ticket"
+compare "exchange windows: its settlement" "$(printf '%s\n' "MARK 1 0 0 tariff 18" "sound: no deal is idle or blocks")" \
+    settled_and_marked "$out/new.ticket"
 
 echo "examples: $passed passed, $failed failed"
 [ "$failed" -eq 0 ]

@@ -1,6 +1,6 @@
 /*
- * The hours exchange for C and C++: tickets, settlements, worths, accounts, sheets
- * and markets that are held open.
+ * The hours exchange for C and C++: tickets, settlements, worths, accounts, sheets,
+ * weekly windows, and markets that are held open.
  *
  * The functions stand in the archive that `rt staticlib exchange_c` proves and
  * writes, target/staticlib/libexchange_c.a:
@@ -46,7 +46,7 @@ extern "C" {
 #endif
 
 /* Elements that always suffice. */
-#define EXCHANGE_TICKET_BYTES 2083     /* of exchange_pack's ticket */
+#define EXCHANGE_TICKET_BYTES 2083     /* of exchange_pack's ticket, exchange_windows' new ticket */
 #define EXCHANGE_TICKET_NUMBERS 1315   /* of exchange_unpack's list */
 #define EXCHANGE_SETTLEMENT_BYTES 1027 /* of exchange_settle's settlement */
 #define EXCHANGE_SHEET_BYTES 8216      /* of exchange_sheet's text */
@@ -56,9 +56,9 @@ extern "C" {
 
 /*
  * Replies: the number that exchange_unpack, exchange_pack, exchange_settle,
- * exchange_sheet, exchange_account, exchange_open, exchange_call and
- * exchange_market_settlement return. Below EXCHANGE_REFUSED it is how many elements
- * were written; otherwise it is EXCHANGE_REFUSED and the refusal's number.
+ * exchange_sheet, exchange_account, exchange_windows, exchange_open, exchange_call
+ * and exchange_market_settlement return. Below EXCHANGE_REFUSED it is how many
+ * elements were written; otherwise it is EXCHANGE_REFUSED and the refusal's number.
  */
 #define EXCHANGE_REFUSED UINT32_C(65536)
 
@@ -114,6 +114,27 @@ uint32_t exchange_sheet(const uint8_t *ticket, size_t ticket_length,
 uint32_t exchange_account(const uint8_t *ticket, size_t ticket_length,
                           const uint8_t *settlement, size_t settlement_length,
                           uint32_t *list, size_t list_length);
+
+/*
+ * Makes a new ticket of a ticket and everybody's windows: the hours of the week, 0 to
+ * 167, at which a grower opens his fields and a pilot flies. The windows are a list of
+ * numbers: for each party, growers first, a count up to EXCHANGE_WINDOWS, and then two
+ * hours for each window, its first and its closing hour, which itself is outside. A
+ * pair's tariff cap falls to the hours that lie in a window of each, its free cap to
+ * those of them that are left after the new tariff cap; a cap that becomes 0 clears its
+ * amounts, and all else is kept. Returns the new ticket's length in bytes. Refusals 1 to
+ * 9 and 18 are about the ticket and come first. Then, party by party, 21 says that the
+ * list ends early or a count is above EXCHANGE_WINDOWS, and 22 that a window is empty,
+ * past EXCHANGE_WEEK_HOURS, or begins before the last one of its party has closed; 21 is
+ * for numbers that are left, too. 10, last, says that the buffer is shorter than the new
+ * ticket.
+ */
+uint32_t exchange_windows(const uint8_t *ticket, size_t ticket_length,
+                          const uint16_t *windows, size_t windows_length,
+                          uint8_t *new_ticket, size_t new_ticket_length);
+
+#define EXCHANGE_WINDOWS 8      /* of a party at most */
+#define EXCHANGE_WEEK_HOURS 168 /* the latest closing hour */
 
 /*
  * Marks a settlement against its ticket. Returns a mark, from which the functions

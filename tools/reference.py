@@ -2,10 +2,10 @@
 
     python3 tools/reference.py crates/cases/stdin PROGRAM_OUTPUT > expected
 
-reads the cases and writes the report that is expected of them. Unpacking, packing, marking, worths and accounts follow the words of the paper,
-with every spare listed one by one. For `settle` and for the `sheet` of a ticket that can be settled many answers are right: there the
-program's own answer is taken from PROGRAM_OUTPUT, judged, and written through only if it is a sound settlement, or the sheet of
-one. Otherwise a line says what is wrong. So the program is right if `expected` is the same as PROGRAM_OUTPUT.
+reads the cases and writes the report that is expected of them. Unpacking, packing, marking, worths, accounts and weekly windows follow the
+words of the paper, with every spare listed one by one, and with every hour of a window. For `settle` and for the `sheet` of a ticket that can
+be settled many answers are right: there the program's own answer is taken from PROGRAM_OUTPUT, judged, and written through only if it is a
+sound settlement, or the sheet of one. Otherwise a line says what is wrong. So the program is right if `expected` is the same as PROGRAM_OUTPUT.
 
     python3 tools/reference.py desk TICKET LINES PROGRAM_OUTPUT > expected
 
@@ -31,6 +31,7 @@ LONGEST = 2200  # the longest document that it can read
 SHOWN = 160  # so much of a line is printed again
 DIGITS = 20  # as many as a number of 64 bits can have
 LONGEST_LINE = 4096  # the most bytes of a desk's line
+WEEK = 168  # the hours of a week
 GROWER, PILOT = 0, 1
 
 
@@ -173,6 +174,10 @@ class Ticket:
 
     def cap(self, pair, deal):
         return self.terms[pair][0 if deal == TARIFF else 3]
+
+    def numbers(self):
+        """In the order of the file."""
+        return [1, self.n, self.m, *self.grower_hours, *self.pilot_hours, *itertools.chain(*self.terms.values())]
 
 
 class Settlement:
@@ -336,6 +341,49 @@ class OpenMarket:
             if cap > 0 and 0 in (self.hours(GROWER)[grower], self.hours(PILOT)[pilot]):
                 raise Refused(20)
         self.ticket.terms[grower, pilot] = list(terms)
+
+
+# Weekly windows
+
+
+def hours_within(windows):
+    """The hours in a party's windows, each a bit of a number. A window is a first hour and a closing hour."""
+    hours = closed = 0
+    for first, closing in windows:
+        if closing <= first or closing > WEEK or first < closed:
+            raise Refused(22)
+        hours |= sum(1 << hour for hour in range(first, closing))
+        closed = closing
+    return hours
+
+
+def hours_of_parties(parties, numbers):
+    """The hours of each of so many parties, of a list with a count and two hours a window for each."""
+    of_parties = []
+    for _ in range(parties):
+        count, numbers = numbers[:1], numbers[1:]
+        if not count or count[0] > 8 or len(numbers) < 2 * count[0]:
+            raise Refused(21)
+        own, numbers = numbers[: 2 * count[0]], numbers[2 * count[0] :]
+        of_parties.append(hours_within(zip(own[::2], own[1::2])))
+    if numbers:
+        raise Refused(21)
+    return of_parties
+
+
+def narrow(data, numbers):
+    """The file of the new ticket that windows make of a ticket's."""
+    ticket = Ticket(unpack(data))
+    of_parties = hours_of_parties(ticket.n + ticket.m, numbers)
+    for grower, pilot in ticket.pairs:
+        common = bin(of_parties[grower] & of_parties[ticket.n + pilot]).count("1")
+        tariff_cap, a, b, free_cap, c = ticket.terms[grower, pilot]
+        tariff_cap = min(tariff_cap, common)
+        free_cap = min(free_cap, common - tariff_cap)
+        tariff_deal = [tariff_cap, a, b] if tariff_cap > 0 else [0, 0, 0]
+        free_deal = [free_cap, c] if free_cap > 0 else [0, 0]
+        ticket.terms[grower, pilot] = tariff_deal + free_deal
+    return pack(ticket.numbers())
 
 
 # The lines of the cases
@@ -518,7 +566,7 @@ def answer_to(line, own):
         if document(second, list_word):
             raise NotUnderstood
         return numeral(document(parts, list_word))
-    heads = {"unpack": 1, "pack": 1, "read": 3, "write": 3, "settle": 1, "sheet": 1}
+    heads = {"unpack": 1, "pack": 1, "read": 3, "write": 3, "settle": 1, "sheet": 1, "windows": 1}
     if operation not in heads or len(words) <= heads[operation]:
         raise NotUnderstood
     *parties, room = words[1 : 1 + heads[operation]]
@@ -527,6 +575,9 @@ def answer_to(line, own):
     text, _, second = " ".join(words[1 + heads[operation] :]).partition("/")
     number = list_word if operation in ("pack", "write") else hexadecimal
     data = document(text, number)
+    if operation == "windows":
+        windows = document(second, list_word)
+        return reply(lambda: narrow(data, windows), room, hex_byte)
     if document(second, number):
         raise NotUnderstood
     if operation == "unpack":

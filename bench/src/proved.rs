@@ -42,6 +42,14 @@ unsafe extern "C" {
         settlement: *mut u8,
         room: usize,
     ) -> u32;
+    fn exchange_windows(
+        ticket: *const u8,
+        bytes: usize,
+        windows: *const u16,
+        numbers: usize,
+        new_ticket: *mut u8,
+        room: usize,
+    ) -> u32;
     fn exchange_mark(ticket: *const u8, bytes: usize, settlement: *const u8, length: usize) -> u64;
     fn exchange_worth(ticket: *const u8, bytes: usize, settlement: *const u8, length: usize)
     -> u64;
@@ -132,6 +140,22 @@ pub fn market_settlement(market: &[u16], settlement: &mut [u8]) -> Answer<usize>
     // SAFETY: as above.
     let number = unsafe {
         exchange_market_settlement(market.as_ptr(), market.len(), settlement.as_mut_ptr(), room)
+    };
+    count_or_refusal(number)
+}
+
+/// The new ticket that weekly windows make of a ticket.
+pub fn windows(ticket: &[u8], windows: &[u16], new_ticket: &mut [u8]) -> Answer<usize> {
+    // SAFETY: as above.
+    let number = unsafe {
+        exchange_windows(
+            ticket.as_ptr(),
+            ticket.len(),
+            windows.as_ptr(),
+            windows.len(),
+            new_ticket.as_mut_ptr(),
+            new_ticket.len(),
+        )
     };
     count_or_refusal(number)
 }

@@ -116,7 +116,7 @@ fn file_with(generator: &mut Generator, numbers: &[u16], damage: Damage) -> Vec<
 }
 
 /// These numbers, whole or damaged; once in ten random numbers.
-fn damaged_list(generator: &mut Generator, numbers: &[u16]) -> (Damage, Vec<u16>) {
+pub fn damaged_list(generator: &mut Generator, numbers: &[u16]) -> (Damage, Vec<u16>) {
     if generator.once_in(10) {
         let list = random_list(generator);
         return (random_of(list.len()), list);
@@ -154,7 +154,7 @@ fn extend<T>(front: &mut Vec<T>, generator: &mut Generator, more: impl Fn(&mut G
 fn changed(generator: &mut Generator, numbers: &[u16]) -> Vec<u16> {
     let mut list = numbers.to_vec();
     let place = if generator.once_in(8) {
-        generator.below(3)
+        generator.below(list.len().min(3))
     } else {
         generator.below(list.len())
     };

@@ -8,3 +8,4 @@ pub mod old_caps;
 pub mod settlements;
 pub mod shapes;
 pub mod tickets;
+pub mod windows;

@@ -17,6 +17,7 @@ pub mod settlement;
 pub mod sheet;
 pub mod squares;
 pub mod ticket;
+pub mod windows;
 
 /// Why an operation refuses; the numbers are the paper's.
 #[derive(Clone, Copy, Debug, PartialEq, Eq)]
@@ -42,6 +43,8 @@ pub enum Refusal {
     CapWithoutHours = 18,
     NoSuchParty = 19,
     AgainstLimits = 20,
+    WindowsMiscounted = 21,
+    IllWindow = 22,
 }
 
 /// The two deals of a pair.

@@ -5,13 +5,16 @@ use std::time::Duration;
 use super::{
     ACCOUNT_NUMBERS, SHEET_BYTES, TICKET_BYTES, TICKET_NUMBERS, Table, mean_times, ratio, time,
 };
+use crate::draw::generator::Generator;
 use crate::draw::shapes::{ONLY_FREE, RANDOM};
+use crate::draw::windows::{listed, most_windows};
 use crate::plain::account::account_into;
 use crate::plain::mark::Verdict;
 use crate::plain::settle::settled;
 use crate::plain::settlement::Settlement;
 use crate::plain::sheet::sheet;
 use crate::plain::ticket::{Ticket, pack, unpack};
+use crate::plain::windows::narrow;
 use crate::plain::{Refusal, mark, quick};
 use crate::proved;
 
@@ -42,6 +45,7 @@ pub fn operations() -> Table {
     });
     push("account", &|| account_times(&sound));
     push("sheet", &|| sheet_times(&files));
+    push("windows, eight of each party", &|| windows_times(&tickets));
     table
 }
 
@@ -124,6 +128,23 @@ fn sheet_times(files: &[Vec<u8>]) -> [Duration; 2] {
         [
             &mut |file| proved::sheet(file, &mut one).is_ok(),
             &mut |file| sheet(file, &mut other).is_ok(),
+        ],
+    )
+}
+
+fn windows_times(tickets: &[Ticket]) -> [Duration; 2] {
+    let mut generator = Generator::new(0);
+    let mut inputs = Vec::new();
+    for ticket in tickets {
+        let windows = most_windows(&mut generator, ticket.growers() + ticket.pilots());
+        inputs.push((ticket.bytes(), listed(&windows)));
+    }
+    let (mut one, mut other) = ([0; TICKET_BYTES], [0; TICKET_BYTES]);
+    mean_times(
+        &inputs,
+        [
+            &mut |(file, list)| proved::windows(file, list, &mut one).is_ok(),
+            &mut |(file, list)| narrow(file, list, &mut other).is_ok(),
         ],
     )
 }

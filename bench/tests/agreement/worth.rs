@@ -128,7 +128,7 @@ fn hours(settlement: &Settlement) -> impl Iterator<Item = u16> {
 }
 
 /// The ticket with growers as pilots and pilots as growers.
-fn turned(ticket: &Ticket) -> Ticket {
+pub fn turned(ticket: &Ticket) -> Ticket {
     let growers = ticket.growers();
     let terms = |pair| *ticket.terms(pair % growers, pair / growers);
     Ticket {

@@ -1,6 +1,7 @@
 // Runs the cases that standard input lists, one to a line, and prints each with its answer. The file `stdin` says at its head how they
 // are written. Its length is printed last, since no more than 65,536 bytes are read.
 mod answer;
+mod narrowing;
 mod reading;
 mod settling;
 mod writing;
@@ -8,6 +9,7 @@ mod writing;
 use answer::judged;
 use answer::with_worth;
 use libc::STDIN_FILENO;
+use narrowing::narrow;
 use reading::read;
 use reading::unpack;
 use script::Case;
@@ -25,19 +27,20 @@ use writing::numeral;
 use writing::pack;
 use writing::write;
 
-// Runs a case. False if it is none.
-fn run(case: Case, list: &[u16], file: &[u8], other: &[u8]) -> bool {
+// Runs a case, on each of its documents as a list and as a file. False if it is none.
+fn run(case: Case, list: &[u16], file: &[u8], other: &[u16], other_file: &[u8]) -> bool {
     let operation = case.operation;
     match operation {
         Operation::Unpack => unpack(file, case.room),
         Operation::Pack => pack(list, case.room),
         Operation::Read => read(file, case.growers, case.pilots, case.room),
         Operation::Write => write(list, case.growers, case.pilots, case.room),
-        Operation::Mark => judged(marker::mark(file, other)),
-        Operation::Worth => with_worth(marker::mark(file, other)),
-        Operation::Account => account(file, other),
+        Operation::Mark => judged(marker::mark(file, other_file)),
+        Operation::Worth => with_worth(marker::mark(file, other_file)),
+        Operation::Account => account(file, other_file),
         Operation::Settle => settle(file, case.room),
         Operation::Sheet => sheet(file, case.room),
+        Operation::Windows => narrow(file, other, case.room),
         Operation::Numeral => numeral(list),
         Operation::Unknown => {
             report::not_understood();
@@ -57,6 +60,7 @@ fn run_line(line: &[u8]) -> bool {
         case,
         numbers::front(&list, case.first),
         bytes::front(&file, case.first),
+        numbers::front(&other, case.second),
         bytes::front(&other_file, case.second),
     )
 }

@@ -47,6 +47,14 @@ noParty = 19
 abbrev pub againstLimits : ℕ
 againstLimits = 20
 
+-- 21, 22: numbers are no list of windows, which ends early, has too many windows of a party or numbers left; a window is empty, past the
+-- week or before the last has closed.
+abbrev pub notWindows : ℕ
+notWindows = 21
+
+abbrev pub badWindow : ℕ
+badWindow = 22
+
 -- The refusal w unless the test holds.
 abbrev pub must : Bool → ℕ → ℕ
 must true w = 0

@@ -8,11 +8,15 @@ mod ticket; // ticket.rt: the fields of a ticket
 pub use hours::noted;
 pub use hours::pair_has_none;
 pub use refusals::AGAINST_LIMITS;
+pub use refusals::BAD_WINDOW;
 pub use refusals::Document;
 pub use refusals::NO_PARTY;
 pub use refusals::NO_ROOM;
 pub use refusals::NOT_SOUND;
+pub use refusals::NOT_WINDOWS;
 pub use refusals::Refusals;
+pub use refusals::first;
+pub use refusals::must;
 pub use refusals::refusals_of;
 pub use settlement::settlement_fault;
 pub use ticket::Field;

@@ -18,7 +18,8 @@ pub struct Refusals {
     pub left: u8, // something is left after the last number
 }
 
-// The refusals of a ticket's ranges, of a lent buffer that is too short, of a settlement that is not sound, and of calls.
+// The refusals of a ticket's ranges, of a lent buffer that is too short, of a settlement that is not sound, of calls, and of
+// windows.
 pub(crate) const HOURS_ABOVE_LIMIT: u8 = 6;
 
 pub(crate) const ABOVE_LIMIT: u8 = 7;
@@ -34,6 +35,10 @@ pub const NOT_SOUND: u8 = 17;
 pub const NO_PARTY: u8 = 19;
 
 pub const AGAINST_LIMITS: u8 = 20;
+
+pub const NOT_WINDOWS: u8 = 21;
+
+pub const BAD_WINDOW: u8 = 22;
 
 // The numbers of a document: 1 to 5 and 9 for a ticket, 11 to 16 for a settlement.
 pub fn refusals_of(document: Document) -> Refusals
@@ -63,14 +68,14 @@ pub fn refusals_of(document: Document) -> Refusals
 }
 
 // No refusal if a test holds.
-pub(crate) fn must(ok: bool, why: u8) -> u8
+pub fn must(ok: bool, why: u8) -> u8
     ensures { λ r. ⌜ r ≡ must ok why ⌝ }
 {
     if ok { 0 } else { why }
 }
 
 // The first of two refusals that is one.
-pub(crate) fn first(a: u8, b: u8) -> u8
+pub fn first(a: u8, b: u8) -> u8
     ensures { λ r. ⌜ r ≡ first a b ⌝ }
 {
     if a == 0 { b } else { a }

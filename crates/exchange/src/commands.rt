@@ -83,6 +83,25 @@ fn unpack(ticket: &[u8]) {
     }
 }
 
+// The ticket that a list of windows makes of a ticket, to a file.
+fn narrow(ticket: &[u8], windows: &[u16]) {
+    let mut new_ticket = files::ticket_bytes();
+    let reply = windows::narrow(ticket, windows, &mut new_ticket);
+    match reply {
+        Reply::Refused { why } => refused(why),
+        Reply::Done { count } => files::write(4, bytes::front(&new_ticket, count)),
+    }
+}
+
+// An operation on a ticket and on the list of windows that is its second file.
+fn with_windows(ticket: &[u8]) {
+    let mut numbers = room::listed_numbers();
+    let list = read_list(3, &mut numbers);
+    if let Counted::Numbers { count } = list {
+        narrow(ticket, numbers::front(&numbers, count));
+    }
+}
+
 fn run(operation: Operation, ticket: &[u8]) {
     match operation {
         Operation::Sheet => printing::sheet(ticket),
@@ -90,6 +109,7 @@ fn run(operation: Operation, ticket: &[u8]) {
         Operation::Mark => with_settlement(ticket, false),
         Operation::Account => with_settlement(ticket, true),
         Operation::Unpack => unpack(ticket),
+        Operation::Windows => with_windows(ticket),
         Operation::Desk => desk::serve(ticket),
     }
 }
@@ -113,28 +133,48 @@ fn pack_numbers(numbers: &[u16], argument: usize) {
     }
 }
 
-fn pack_text(text: &[u8]) {
-    let mut numbers = room::listed_numbers();
-    let listed = lists::read_numbers(text, &mut numbers);
+// How many numbers a text lists, unless it is no list.
+enum Counted {
+    Nothing,
+    Numbers { count: usize },
+}
+
+// What is no list is told on standard error.
+fn numbers_of(text: &[u8], numbers: &mut [u16]) -> Counted {
+    let listed = lists::read_numbers(text, numbers);
     match listed {
         Listed::Wrong { line } => {
             counted(STDERR_FILENO, b"line ", line as u64);
             say(STDERR_FILENO, b": not a number up to 65535\n");
+            Counted::Nothing
         }
-        Listed::NoRoom => say(STDERR_FILENO, b"more than 32768 numbers\n"),
-        Listed::Done { count } => pack_numbers(numbers::front(&numbers, count), 3),
+        Listed::NoRoom => {
+            say(STDERR_FILENO, b"more than 32768 numbers\n");
+            Counted::Nothing
+        }
+        Listed::Done { count } => Counted::Numbers { count },
     }
 }
 
-pub(crate) fn pack() {
+// The numbers of the text that an argument names.
+fn read_list(argument: usize, numbers: &mut [u16]) -> Counted {
     let mut text = io::large_buffer();
-    let got = files::read(2, &mut text);
-    if let Got::Bytes { count } = got {
-        if count < 65536 {
-            pack_text(bytes::front(&text, count));
-        } else {
-            say(STDERR_FILENO, b"more than 65535 bytes\n");
-        }
+    let got = files::read(argument, &mut text);
+    let Got::Bytes { count } = got else {
+        return Counted::Nothing;
+    };
+    if count < 65536 {
+        return numbers_of(bytes::front(&text, count), numbers);
+    }
+    say(STDERR_FILENO, b"more than 65535 bytes\n");
+    Counted::Nothing
+}
+
+pub(crate) fn pack() {
+    let mut numbers = room::listed_numbers();
+    let list = read_list(2, &mut numbers);
+    if let Counted::Numbers { count } = list {
+        pack_numbers(numbers::front(&numbers, count), 3);
     }
 }
 

@@ -11,6 +11,7 @@ pub(crate) enum Operation {
     Mark,
     Account,
     Unpack,
+    Windows,
     Desk,
 }
 
@@ -43,6 +44,9 @@ pub(crate) fn command_of(word: &[u8]) -> Command {
     if check::same(word, b"unpack") {
         return on_ticket(Operation::Unpack);
     }
+    if check::same(word, b"windows") {
+        return on_ticket(Operation::Windows);
+    }
     if check::same(word, b"desk") {
         return on_ticket(Operation::Desk);
     }
@@ -69,6 +73,7 @@ fn words_on_ticket(operation: Operation) -> usize {
         Operation::Mark => 4,
         Operation::Account => 4,
         Operation::Unpack => 3,
+        Operation::Windows => 5,
         Operation::Desk => 3,
     }
 }
@@ -87,7 +92,7 @@ pub(crate) fn words_of(command: Command) -> usize {
 pub(crate) fn usage() {
     say(
         STDERR_FILENO,
-        b"usage: exchange sheet|settle|mark|account|unpack|pack|draw|desk|help ARGUMENTS\n",
+        b"usage: exchange sheet|settle|mark|account|unpack|pack|draw|windows|desk|help ARGUMENTS\n",
     );
 }
 
@@ -104,7 +109,10 @@ pub(crate) fn help() {
         STDOUT_FILENO,
         b"exchange unpack TICKET\nexchange pack LIST TICKET\nexchange draw SEED N M TICKET\n",
     );
-    say(STDOUT_FILENO, b"exchange desk TICKET\n");
+    say(
+        STDOUT_FILENO,
+        b"exchange windows TICKET WINDOWS NEW_TICKET\nexchange desk TICKET\n",
+    );
 }
 
 // A number that an argument gives, if it is one.

@@ -2,3 +2,4 @@
 pub mod ReplyLaws
 pub mod MarketLaws
 pub mod AccountLaws
+pub mod WindowLaws

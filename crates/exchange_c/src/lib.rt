@@ -9,6 +9,7 @@ ghost use Rattle.marker.specs.Marked.{markedValues};
 ghost use Rattle.settler.specs.Settled.{Settled};
 ghost use Rattle.sheets.specs.Sheeted.{Sheeted};
 ghost use Rattle.accounts.specs.Accounted.{accountOutcome};
+ghost use Rattle.windows.specs.Narrowed.{newTicket};
 ghost use Rattle.market_lists.specs.Lent.{OpenedIn, CalledIn, WrittenFrom};
 ghost use Rattle.exchange_c.specs.Replies.{replyNumber, NumberOf};
 ghost use Rattle.c_answers.specs.Marks.{markNumber, worthNumber};
@@ -71,6 +72,15 @@ pub extern "C" fn exchange_account(ticket: &[u8], settlement: &[u8], list: &mut 
     ensures { λ _. ⌜ now (list .exit) ≡ kept (now (list .entry)) (accountOutcome (now (ticket .entry)) (now (settlement .entry))) ⌝ }
 {
     reply_number(c_answers::lend_account(ticket, settlement, list))
+}
+
+// `windows::narrow`: the length of the new ticket in bytes, or a refusal; 10, the buffer is too short, comes last.
+#[no_mangle]
+pub extern "C" fn exchange_windows(ticket: &[u8], windows: &[u16], new_ticket: &mut [u8]) -> u32
+    ensures { λ r. ⌜ r ≡ replyNumber (reply (length (now («new_ticket» .entry))) (newTicket (now (ticket .entry)) (now (windows .entry)))) ⌝ }
+    ensures { λ _. ⌜ now («new_ticket» .exit) ≡ kept (now («new_ticket» .entry)) (newTicket (now (ticket .entry)) (now (windows .entry))) ⌝ }
+{
+    reply_number(windows::narrow(ticket, windows, new_ticket))
 }
 
 // `market_lists::open`: how many numbers a market has in a list, or a refusal; 10, the list is too short, comes last.

@@ -58,26 +58,34 @@ fn words_before(operation: Operation) -> usize {
     }
 }
 
-// A list of numbers is in decimal, the bytes of a file are in hexadecimal.
-fn base_of(operation: Operation) -> Base {
+// How the first document is written: a list of numbers in decimal, the bytes of a file in hexadecimal.
+fn first_base(operation: Operation) -> Base {
     match operation {
         Operation::Pack | Operation::Write | Operation::Numeral => Base::Ten,
         _ => Base::Sixteen,
     }
 }
 
-// The longest second document. Only marking, worths and accounts have one.
+// The same of the second document.
+fn second_base(operation: Operation) -> Base {
+    match operation {
+        Operation::Windows => Base::Ten,
+        _ => Base::Sixteen,
+    }
+}
+
+// The longest second document. Only marking, worths, accounts and windows have one.
 fn longest_second(operation: Operation) -> usize {
     match operation {
-        Operation::Mark | Operation::Worth | Operation::Account => LONGEST,
+        Operation::Mark | Operation::Worth | Operation::Account | Operation::Windows => LONGEST,
         _ => 0,
     }
 }
 
-fn documents(text: &[u8], base: Base, list: &mut [u16], other: &mut [u16]) -> Lengths {
+fn documents(text: &[u8], operation: Operation, list: &mut [u16], other: &mut [u16]) -> Lengths {
     Lengths {
-        first: numbers(before(text, b'/'), base, list),
-        second: numbers(after(text, b'/'), base, other),
+        first: numbers(before(text, b'/'), first_base(operation), list),
+        second: numbers(after(text, b'/'), second_base(operation), other),
     }
 }
 
@@ -142,6 +150,6 @@ fn whole(case: Case) -> Case {
 pub fn read(line: &[u8], list: &mut [u16], other: &mut [u16]) -> Case {
     let operation = named(before(line, b' '));
     let text = without_words(line, words_before(operation));
-    let lengths = documents(text, base_of(operation), list, other);
+    let lengths = documents(text, operation, list, other);
     whole(with_numbers(line, operation, lengths))
 }

@@ -9,6 +9,7 @@ pub enum Operation {
     Account,
     Settle,
     Sheet,
+    Windows,
     Numeral,
     Unknown,
 }
@@ -31,6 +32,8 @@ const ACCOUNT: u64 = 0x61_63_63_6f_75_6e_74;
 const SETTLE: u64 = 0x73_65_74_74_6c_65;
 
 const SHEET: u64 = 0x73_68_65_65_74;
+
+const WINDOWS: u64 = 0x77_69_6e_64_6f_77_73;
 
 const NUMERAL: u64 = 0x6e_75_6d_65_72_61_6c;
 
@@ -58,6 +61,7 @@ pub(crate) fn named(word: &[u8]) -> Operation {
         ACCOUNT => Operation::Account,
         SETTLE => Operation::Settle,
         SHEET => Operation::Sheet,
+        WINDOWS => Operation::Windows,
         NUMERAL => Operation::Numeral,
         _ => Operation::Unknown,
     }

@@ -29,6 +29,14 @@ fn refusal_words(fd: i32, why: u8) {
         ),
         19 => say(fd, b"no such grower or pilot"),
         20 => say(fd, b"a number breaks the limits of a ticket"),
+        21 => say(
+            fd,
+            b"the list ends early, has more than 8 windows of a party or numbers left",
+        ),
+        22 => say(
+            fd,
+            b"one is empty, past hour 168 or begins before the last has closed",
+        ),
         _ => say(fd, b"something is left at its end"),
     }
 }
@@ -42,6 +50,7 @@ fn refused_thing(fd: i32, why: u8) {
     match why {
         0..=10 | 18 => say(fd, b"ticket: "),
         19 | 20 => say(fd, b"call: "),
+        21 | 22 => say(fd, b"windows: "),
         _ => say(fd, b"settlement: "),
     }
 }

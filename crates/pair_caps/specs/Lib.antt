@@ -1,0 +1,2 @@
+-- The definitions that the contracts of `pair_caps` cite.
+pub mod PairCaps

@@ -1,0 +1,2 @@
+-- The laws of `week`.
+pub mod WeekLaws

@@ -1,0 +1,3 @@
+-- The laws of `window_lists`.
+pub mod WindowLaws
+pub mod WholeWeek
