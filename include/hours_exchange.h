@@ -1,6 +1,6 @@
 /*
  * The hours exchange for C and C++: tickets, settlements, worths, accounts, sheets,
- * weekly windows, and markets that are held open.
+ * weekly windows, markets that are held open, and the words of refusals and verdicts.
  *
  * The functions stand in the archive that `rt staticlib exchange_c` proves and
  * writes, target/staticlib/libexchange_c.a:
@@ -45,20 +45,25 @@
 extern "C" {
 #endif
 
+#define EXCHANGE_VERSION "1.7.0"
+
 /* Elements that always suffice. */
-#define EXCHANGE_TICKET_BYTES 2083     /* of exchange_pack's ticket, exchange_windows' new ticket */
-#define EXCHANGE_TICKET_NUMBERS 1315   /* of exchange_unpack's list */
-#define EXCHANGE_SETTLEMENT_BYTES 1027 /* of exchange_settle's settlement */
-#define EXCHANGE_SHEET_BYTES 8216      /* of exchange_sheet's text */
-#define EXCHANGE_ACCOUNT_NUMBERS 48    /* of exchange_account's list */
-#define EXCHANGE_MARKET_NUMBERS 2118   /* of exchange_open's market: no fewer do */
-#define EXCHANGE_CALL_NUMBERS 8        /* of each of exchange_call's calls */
+#define EXCHANGE_TICKET_BYTES 2083      /* of exchange_pack's ticket, exchange_windows' new ticket */
+#define EXCHANGE_TICKET_NUMBERS 1315    /* of exchange_unpack's list */
+#define EXCHANGE_SETTLEMENT_BYTES 1027  /* of exchange_settle's settlement */
+#define EXCHANGE_SETTLEMENT_NUMBERS 771 /* of exchange_read_settlement's list */
+#define EXCHANGE_SHEET_BYTES 8216       /* of exchange_sheet's text */
+#define EXCHANGE_ACCOUNT_NUMBERS 48     /* of exchange_account's list */
+#define EXCHANGE_MARKET_NUMBERS 2118    /* of exchange_open's market: no fewer do */
+#define EXCHANGE_CALL_NUMBERS 8         /* of each of exchange_call's calls */
+#define EXCHANGE_TEXT_BYTES 96          /* of exchange_text's text */
 
 /*
- * Replies: the number that exchange_unpack, exchange_pack, exchange_settle,
- * exchange_sheet, exchange_account, exchange_windows, exchange_open, exchange_call
- * and exchange_market_settlement return. Below EXCHANGE_REFUSED it is how many
- * elements were written; otherwise it is EXCHANGE_REFUSED and the refusal's number.
+ * Replies: the number that exchange_unpack, exchange_pack, exchange_read_settlement,
+ * exchange_write_settlement, exchange_settle, exchange_sheet, exchange_account,
+ * exchange_windows, exchange_open, exchange_call, exchange_market_settlement and
+ * exchange_text return. Below EXCHANGE_REFUSED it is how many elements were written;
+ * otherwise it is EXCHANGE_REFUSED and the refusal's number.
  */
 #define EXCHANGE_REFUSED UINT32_C(65536)
 
@@ -67,6 +72,30 @@ static inline uint32_t exchange_refusal(uint32_t reply)
 {
     return reply < EXCHANGE_REFUSED ? 0 : reply - EXCHANGE_REFUSED;
 }
+
+/* The refusals. exchange_text has them in words. */
+#define EXCHANGE_ENDS_EARLY 1                /* a ticket that ends early */
+#define EXCHANGE_LONG_NUMBER 2               /* a number of a ticket has more than two bytes */
+#define EXCHANGE_PADDED_NUMBER 3             /* a number of a ticket is padded with 00 */
+#define EXCHANGE_OTHER_KIND 4                /* another kind of file than a ticket */
+#define EXCHANGE_PARTIES_OUT_OF_RANGE 5      /* growers or pilots of a ticket not 1 to 16 */
+#define EXCHANGE_HOURS_ABOVE_LIMIT 6         /* hours above 60 */
+#define EXCHANGE_ABOVE_LIMIT 7               /* a cap above 60 or an amount above 500 */
+#define EXCHANGE_AMOUNT_WITHOUT_CAP 8        /* an amount in a deal of cap 0 */
+#define EXCHANGE_LEFT_AT_END 9               /* something is left at a ticket's end */
+#define EXCHANGE_NO_ROOM 10                  /* the buffer or the list is too short */
+#define EXCHANGE_SETTLEMENT_ENDS_EARLY 11    /* a settlement that ends early */
+#define EXCHANGE_SETTLEMENT_LONG_NUMBER 12   /* a number of a settlement has more than two bytes */
+#define EXCHANGE_SETTLEMENT_PADDED_NUMBER 13 /* a number of a settlement is padded with 00 */
+#define EXCHANGE_SETTLEMENT_OTHER_KIND 14    /* another kind of file than a settlement */
+#define EXCHANGE_SETTLEMENT_OTHER_PARTIES 15 /* growers or pilots unlike the ticket's */
+#define EXCHANGE_SETTLEMENT_LEFT_AT_END 16   /* something is left at a settlement's end */
+#define EXCHANGE_NOT_SOUND 17                /* a settlement that is not sound */
+#define EXCHANGE_CAP_WITHOUT_HOURS 18        /* a cap above 0, but the grower or the pilot has no hours */
+#define EXCHANGE_NO_PARTY 19                 /* a call names no grower or pilot of the market */
+#define EXCHANGE_AGAINST_LIMITS 20           /* a call's number breaks the limits of a ticket */
+#define EXCHANGE_NOT_WINDOWS 21              /* numbers are no list of windows */
+#define EXCHANGE_BAD_WINDOW 22               /* a window is empty, past the week, or before the last has closed */
 
 /*
  * Turns a ticket's bytes into its list of numbers: kind, n, m, everybody's
@@ -84,6 +113,28 @@ uint32_t exchange_unpack(const uint8_t *ticket, size_t ticket_length,
  */
 uint32_t exchange_pack(const uint16_t *list, size_t list_length,
                        uint8_t *ticket, size_t ticket_length);
+
+/*
+ * Turns the bytes of a settlement of a ticket with so many growers and pilots into its
+ * list of numbers: kind, n, m, and three numbers for each pair, tariff hours,
+ * free-deal hours and pay. Returns how many there are. Refusals 11 to 16 are about the
+ * settlement; 15 comes first where growers or pilots are above EXCHANGE_PARTIES, as no
+ * ticket has so many. 10, last, says that the list is shorter than the settlement.
+ * Whether the settlement is sound is not looked at.
+ */
+uint32_t exchange_read_settlement(const uint8_t *settlement, size_t settlement_length,
+                                  size_t growers, size_t pilots,
+                                  uint16_t *list, size_t list_length);
+
+/*
+ * The reverse: turns a list of numbers into a settlement's bytes. Returns how many
+ * there are. Refusals 11, 12 and 14 to 16 are about the list, 15 first as above; 10,
+ * last, says that the buffer is shorter than the settlement. EXCHANGE_SETTLEMENT_BYTES
+ * suffice where all hours are below 128, and 2 * EXCHANGE_SETTLEMENT_NUMBERS always.
+ */
+uint32_t exchange_write_settlement(const uint16_t *list, size_t list_length,
+                                   size_t growers, size_t pilots,
+                                   uint8_t *settlement, size_t settlement_length);
 
 /*
  * Writes a sound settlement of a ticket. Returns its length in bytes. Refusals 1
@@ -298,6 +349,19 @@ static inline uint16_t exchange_market_pilot_free_hours(const uint16_t *market, 
  */
 uint32_t exchange_market_settlement(const uint16_t *market, size_t market_length,
                                     uint8_t *settlement, size_t settlement_length);
+
+/* What exchange_text tells. */
+#define EXCHANGE_TEXT_REFUSAL 0
+#define EXCHANGE_TEXT_VERDICT 1
+
+/*
+ * Writes the words of a refusal, as `ticket: it ends early`, or of a verdict, as
+ * `blocks`, in ASCII. `what` is EXCHANGE_TEXT_REFUSAL; any other number is taken for
+ * EXCHANGE_TEXT_VERDICT. A number that no refusal or no verdict has is told so, in
+ * words too. Returns the text's length in bytes; no zero byte and no line end is
+ * written after it. The only refusal is 10: the buffer is shorter than the text.
+ */
+uint32_t exchange_text(uint32_t what, uint32_t number, uint8_t *text, size_t text_length);
 
 #ifdef __cplusplus
 }

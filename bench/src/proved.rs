@@ -50,6 +50,23 @@ unsafe extern "C" {
         new_ticket: *mut u8,
         room: usize,
     ) -> u32;
+    fn exchange_read_settlement(
+        settlement: *const u8,
+        bytes: usize,
+        growers: usize,
+        pilots: usize,
+        list: *mut u16,
+        places: usize,
+    ) -> u32;
+    fn exchange_write_settlement(
+        list: *const u16,
+        places: usize,
+        growers: usize,
+        pilots: usize,
+        settlement: *mut u8,
+        room: usize,
+    ) -> u32;
+    fn exchange_text(what: u32, number: u32, text: *mut u8, room: usize) -> u32;
     fn exchange_mark(ticket: *const u8, bytes: usize, settlement: *const u8, length: usize) -> u64;
     fn exchange_worth(ticket: *const u8, bytes: usize, settlement: *const u8, length: usize)
     -> u64;
@@ -158,6 +175,52 @@ pub fn windows(ticket: &[u8], windows: &[u16], new_ticket: &mut [u8]) -> Answer<
         )
     };
     count_or_refusal(number)
+}
+
+pub fn read_settlement(
+    settlement: &[u8],
+    growers: usize,
+    pilots: usize,
+    list: &mut [u16],
+) -> Answer<usize> {
+    // SAFETY: as above.
+    let number = unsafe {
+        exchange_read_settlement(
+            settlement.as_ptr(),
+            settlement.len(),
+            growers,
+            pilots,
+            list.as_mut_ptr(),
+            list.len(),
+        )
+    };
+    count_or_refusal(number)
+}
+
+pub fn write_settlement(
+    list: &[u16],
+    growers: usize,
+    pilots: usize,
+    settlement: &mut [u8],
+) -> Answer<usize> {
+    // SAFETY: as above.
+    let number = unsafe {
+        exchange_write_settlement(
+            list.as_ptr(),
+            list.len(),
+            growers,
+            pilots,
+            settlement.as_mut_ptr(),
+            settlement.len(),
+        )
+    };
+    count_or_refusal(number)
+}
+
+/// The words of a refusal.
+pub fn refusal_text(number: u32, text: &mut [u8]) -> Answer<usize> {
+    // SAFETY: as above.
+    count_or_refusal(unsafe { exchange_text(0, number, text.as_mut_ptr(), text.len()) })
 }
 
 fn count_or_refusal(number: u32) -> Answer<usize> {

@@ -1,8 +1,8 @@
 //! The settlement: its numbers, reading it for a ticket, and writing it.
 
-use super::Refusal;
-use super::numbers::{Bytes, Ill, Source, write_numbers};
+use super::numbers::{Bytes, Ill, List, Source, write_numbers};
 use super::ticket::Ticket;
+use super::{Refusal, copy_to_front};
 
 pub(super) const KIND: u16 = 2;
 
@@ -42,22 +42,12 @@ impl Settlement {
 
     pub fn read(bytes: &[u8], ticket: &Ticket) -> Result<Settlement, Refusal> {
         let mut source = Bytes(bytes);
-        expect(&mut source, KIND, Refusal::NoSettlement)?;
-        expect(&mut source, ticket.growers() as u16, Refusal::OtherParties)?;
-        expect(&mut source, ticket.pilots() as u16, Refusal::OtherParties)?;
-        let mut settlement = Settlement::empty(ticket);
-        for agreement in &mut settlement.agreements {
-            *agreement = Agreement {
-                tariff_hours: next_number(&mut source)?,
-                free_deal_hours: next_number(&mut source)?,
-                pay: next_number(&mut source)?,
-            };
-        }
-        if source.is_finished() {
-            Ok(settlement)
-        } else {
-            Err(Refusal::SettlementBytesLeft)
-        }
+        let agreements = agreements(&mut source, ticket.growers(), ticket.pilots())?;
+        Ok(Settlement {
+            growers: ticket.growers(),
+            pilots: ticket.pilots(),
+            agreements,
+        })
     }
 
     pub fn agreement(&self, grower: usize, pilot: usize) -> &Agreement {
@@ -77,7 +67,80 @@ impl Settlement {
     }
 }
 
-fn next_number(source: &mut Bytes) -> Result<u16, Refusal> {
+/// The bytes of a settlement of a ticket with so many growers and pilots as its list of numbers. Returns their count.
+pub fn read_settlement(
+    bytes: &[u8],
+    growers: usize,
+    pilots: usize,
+    list: &mut [u16],
+) -> Result<usize, Refusal> {
+    let settlement = of_size(&mut Bytes(bytes), growers, pilots)?;
+    copy_to_front(&settlement.numbers(), list)
+}
+
+/// The reverse. A number that two bytes do not hold is refused as its second byte would be.
+pub fn write_settlement(
+    list: &[u16],
+    growers: usize,
+    pilots: usize,
+    bytes: &mut [u8],
+) -> Result<usize, Refusal> {
+    let settlement = of_size(&mut Short(List(list)), growers, pilots)?;
+    copy_to_front(&settlement.bytes(), bytes)
+}
+
+/// No ticket has more growers or pilots than 16.
+fn of_size(source: &mut impl Source, growers: usize, pilots: usize) -> Result<Settlement, Refusal> {
+    if growers > 16 || pilots > 16 {
+        return Err(Refusal::OtherParties);
+    }
+    Ok(Settlement {
+        growers,
+        pilots,
+        agreements: agreements(source, growers, pilots)?,
+    })
+}
+
+/// A list whose numbers fit two bytes.
+struct Short<'a>(List<'a>);
+
+impl Source for Short<'_> {
+    fn next_number(&mut self) -> Result<u16, Ill> {
+        match self.0.next_number()? {
+            number if number < 1 << 14 => Ok(number),
+            _ => Err(Ill::SecondByteHasTopBit),
+        }
+    }
+
+    fn is_finished(&self) -> bool {
+        self.0.is_finished()
+    }
+}
+
+fn agreements(
+    source: &mut impl Source,
+    growers: usize,
+    pilots: usize,
+) -> Result<Vec<Agreement>, Refusal> {
+    expect(source, KIND, Refusal::NoSettlement)?;
+    expect(source, growers as u16, Refusal::OtherParties)?;
+    expect(source, pilots as u16, Refusal::OtherParties)?;
+    let mut agreements = Vec::with_capacity(growers * pilots);
+    for _ in 0..growers * pilots {
+        agreements.push(Agreement {
+            tariff_hours: next_number(source)?,
+            free_deal_hours: next_number(source)?,
+            pay: next_number(source)?,
+        });
+    }
+    if source.is_finished() {
+        Ok(agreements)
+    } else {
+        Err(Refusal::SettlementBytesLeft)
+    }
+}
+
+fn next_number(source: &mut impl Source) -> Result<u16, Refusal> {
     source.next_number().map_err(|ill| match ill {
         Ill::EndsEarly => Refusal::SettlementEndsEarly,
         Ill::SecondByteHasTopBit => Refusal::SettlementSecondByteHasTopBit,
@@ -85,7 +148,7 @@ fn next_number(source: &mut Bytes) -> Result<u16, Refusal> {
     })
 }
 
-fn expect(source: &mut Bytes, number: u16, why: Refusal) -> Result<(), Refusal> {
+fn expect(source: &mut impl Source, number: u16, why: Refusal) -> Result<(), Refusal> {
     if next_number(source)? == number {
         Ok(())
     } else {

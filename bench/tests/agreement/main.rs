@@ -12,6 +12,7 @@ mod open_market;
 mod pack;
 mod paper;
 mod settle;
+mod settlements;
 mod sheet;
 mod tally;
 mod unpack;

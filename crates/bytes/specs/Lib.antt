@@ -3,3 +3,4 @@ pub mod Decimal
 pub mod Numeral
 pub mod Lines
 pub mod Writing
+pub mod Texts

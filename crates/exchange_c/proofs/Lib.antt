@@ -3,3 +3,5 @@ pub mod ReplyLaws
 pub mod MarketLaws
 pub mod AccountLaws
 pub mod WindowLaws
+pub mod SettlementLaws
+pub mod TextLaws

@@ -89,7 +89,8 @@ pub gives-short : (s xs rest : List ℕ) → Gives bytes s xs rest → length s 
 gives-short s [] rest g = omega (arith, ap length g)
 gives-short s (x ∷ xs) rest g = omega (arith, read-short groups 0 s x (g .0) (g .1), gives-short (g .0) xs rest (g .2))
 
-settlement-short : (n m : ℕ) (s xs : List ℕ) → n ≤ 16 → m ≤ 16 → settlementRead n m s ≡ Numbers xs → length s ≤ 1542
+-- So a settlement has at most 1,542 bytes.
+pub settlement-short : (n m : ℕ) (s xs : List ℕ) → n ≤ 16 → m ≤ 16 → settlementRead n m s ≡ Numbers xs → length s ≤ 1542
 settlement-short n m s xs hn hm e =
     omega (
       arith,

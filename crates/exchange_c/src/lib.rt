@@ -1,10 +1,13 @@
 // The exchange for programs in C: the proved operations under plain names, each answering one number.
 // A slice is a pointer and a length to C. `include/hours_exchange.h` declares these functions.
-mod replies;
+mod meanings; // meanings.rt: what C asks the text of
+mod replies; // replies.rt: the number of a reply
+mod settlements; // settlements.rt: settlements by growers and pilots
 
 ghost use mathlib.Core.Path.{_≡_};
 ghost use lib.ListN.{length};
-ghost use Rattle.reader.specs.Answer.{unpacked, packed, reply, kept};
+ghost use Rattle.reader.specs.Walk.{Numbers};
+ghost use Rattle.reader.specs.Answer.{unpacked, packed, settlementRead, settlementPacked, reply, kept};
 ghost use Rattle.marker.specs.Marked.{markedValues};
 ghost use Rattle.settler.specs.Settled.{Settled};
 ghost use Rattle.sheets.specs.Sheeted.{Sheeted};
@@ -12,7 +15,12 @@ ghost use Rattle.accounts.specs.Accounted.{accountOutcome};
 ghost use Rattle.windows.specs.Narrowed.{newTicket};
 ghost use Rattle.market_lists.specs.Lent.{OpenedIn, CalledIn, WrittenFrom};
 ghost use Rattle.exchange_c.specs.Replies.{replyNumber, NumberOf};
+ghost use Rattle.exchange_c.specs.Settlements.{ofTicket};
+ghost use Rattle.exchange_c.specs.Texts.{meaningOf};
 ghost use Rattle.c_answers.specs.Marks.{markNumber, worthNumber};
+ghost use Rattle.texts.specs.Meanings.{tellingOf};
+use meanings::byte_of;
+use meanings::meaning_of;
 use replies::reply_number;
 
 // `reader::unpack`: the count of a ticket's numbers, or a refusal.
@@ -31,6 +39,34 @@ pub extern "C" fn exchange_pack(list: &[u16], ticket: &mut [u8]) -> u32
     ensures { λ _. ⌜ now (ticket .exit) ≡ kept (now (ticket .entry)) (packed (now (list .entry))) ⌝ }
 {
     reply_number(reader::pack(list, ticket))
+}
+
+// `reader::read_settlement`: the count of a settlement's numbers, or a refusal; 15 first where growers or pilots are more than 16.
+#[no_mangle]
+pub extern "C" fn exchange_read_settlement(
+    settlement: &[u8],
+    growers: usize,
+    pilots: usize,
+    list: &mut [u16],
+) -> u32
+    ensures { λ r. ⌜ r ≡ replyNumber (reply (length (now (list .entry))) (ofTicket growers pilots (settlementRead growers pilots (now (settlement .entry))))) ⌝ }
+    ensures { λ _. ⌜ now (list .exit) ≡ kept (now (list .entry)) (ofTicket growers pilots (settlementRead growers pilots (now (settlement .entry)))) ⌝ }
+{
+    reply_number(settlements::read(settlement, growers, pilots, list))
+}
+
+// `reader::write_settlement`: the length of a settlement in bytes, or a refusal; 15 first where growers or pilots are more than 16.
+#[no_mangle]
+pub extern "C" fn exchange_write_settlement(
+    list: &[u16],
+    growers: usize,
+    pilots: usize,
+    settlement: &mut [u8],
+) -> u32
+    ensures { λ r. ⌜ r ≡ replyNumber (reply (length (now (settlement .entry))) (ofTicket growers pilots (settlementPacked growers pilots (now (list .entry))))) ⌝ }
+    ensures { λ _. ⌜ now (settlement .exit) ≡ kept (now (settlement .entry)) (ofTicket growers pilots (settlementPacked growers pilots (now (list .entry)))) ⌝ }
+{
+    reply_number(settlements::write(list, growers, pilots, settlement))
 }
 
 // `settler::settle`: the length of a sound settlement in bytes, or a refusal.
@@ -105,4 +141,13 @@ pub extern "C" fn exchange_market_settlement(market: &[u16], settlement: &mut [u
     ensures { λ r. ⌜ NumberOf (WrittenFrom (now (market .entry)) (now (settlement .entry)) (now (settlement .exit))) r ⌝ }
 {
     reply_number(market_lists::write_settlement(market, settlement))
+}
+
+// `texts::telling`: the length of the words of a refusal (`what` is 0) or of a verdict, or the refusal of a buffer that is too short.
+#[no_mangle]
+pub extern "C" fn exchange_text(what: u32, number: u32, text: &mut [u8]) -> u32
+    ensures { λ r. ⌜ r ≡ replyNumber (reply (length (now (text .entry))) (Numbers (tellingOf (meaningOf what) number))) ⌝ }
+    ensures { λ _. ⌜ now (text .exit) ≡ kept (now (text .entry)) (Numbers (tellingOf (meaningOf what) number)) ⌝ }
+{
+    reply_number(texts::telling(meaning_of(what), byte_of(number), text))
 }

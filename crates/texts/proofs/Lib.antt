@@ -1,3 +1,4 @@
 pub mod LineWriting
 pub mod MarkLineLaws
+pub mod MeaningLaws
 pub mod Examples

@@ -1,2 +1,3 @@
--- The definitions that the contract of `texts` cites.
+-- The definitions that the contracts of `texts` cite.
 pub mod MarkLine
+pub mod Meanings
