@@ -1,0 +1,2 @@
+-- The definitions that the contracts of `places` cite.
+pub mod Places
