@@ -3,3 +3,4 @@ mod text;
 
 pub use text::Listed;
 pub use text::read_numbers;
+pub use text::white;

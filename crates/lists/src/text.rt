@@ -50,7 +50,8 @@ fn within(b: u8, low: u8, high: u8) -> bool
     low <= b && b <= high
 }
 
-fn white(b: u8) -> bool
+// A space, or one of the control characters from the tab to the carriage return.
+pub fn white(b: u8) -> bool
     ensures { λ r. ⌜ r ≡ white b ⌝ }
 {
     b == 32 || within(b, 9, 13)

@@ -1,0 +1,3 @@
+-- The definitions that the contracts of `labels` cite, each file over those above it.
+pub mod Spots
+pub mod Words

@@ -1,0 +1,2 @@
+-- The definitions that the contracts of `pages` cite.
+pub mod Put
