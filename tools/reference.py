@@ -716,11 +716,11 @@ def may_be_free(ticket, lines):
 
 def ticket_lines(ticket):
     """A ticket as `exchange unpack` prints it."""
-    lines = ["growers %d pilots %d" % (ticket.n, ticket.m)]
+    lines = ["ticket kind 1 growers %d pilots %d" % (ticket.n, ticket.m)]
     for name, all_hours in ("grower", ticket.grower_hours), ("pilot", ticket.pilot_hours):
         lines += ["%s %d hours %d" % (name, who, hours) for who, hours in enumerate(all_hours)]
     for pair, terms in ticket.terms.items():
-        lines.append("pair %d %d tariff cap %d gains %d %d free cap %d gain %d" % (*pair, *terms))
+        lines.append("pair %d %d tariff cap %d gain %d pay %d free cap %d joint gain %d" % (*pair, *terms))
     return lines
 
 

@@ -5,102 +5,138 @@ use desk_calls::Call;
 use desk_calls::Fault;
 use desk_calls::call_of;
 use desk_calls::word;
-use files::say;
-use libc::STDERR_FILENO;
+use files::Stream;
+use files::complain;
+use files::put;
+use layouts::Layout;
 use libc::STDOUT_FILENO;
 use open_market::Answer;
 use open_market::Market;
 use open_market::Terms;
 use reader::Reply;
 
-fn accepted() {
-    say(STDOUT_FILENO, b"OK\n");
+// The market after a line, and whether the answer could not be written.
+pub(crate) struct After {
+    pub(crate) market: Market,
+    pub(crate) failed: bool,
 }
 
-// The market after a call that sets something.
-fn changed(answer: Answer) -> Market {
-    if answer.refusal == 0 {
-        accepted();
-    } else {
-        printing::refused(answer.refusal);
+// What a call that sets something answers.
+fn put_reply(page: &mut [u8], stream: Stream, refusal: u8) -> Stream {
+    if refusal == 0 {
+        return put(page, stream, b"OK\n");
     }
-    answer.market
+    printing::put_refused(page, stream, refusal)
 }
 
-fn print_sheet(market: Market) {
+// The market after a call that sets something. Why it was refused is told after the answer.
+fn changed(answer: Answer) -> After {
+    let mut page = io::buffer();
+    let told = put_reply(&mut page, files::to(STDOUT_FILENO), answer.refusal);
+    let done = files::finish(&page, told);
+    if answer.refusal != 0 {
+        printing::tell_refusal(answer.refusal);
+    }
+    let market = answer.market;
+    After {
+        market,
+        failed: !done,
+    }
+}
+
+fn put_sheet(page: &mut [u8], stream: Stream, market: Market) -> Stream {
     let mut ticket = files::ticket_bytes();
     let reply = pack(market, &mut ticket);
     match reply {
-        Reply::Refused { why } => printing::refused(why),
-        Reply::Done { count } => printing::sheet(bytes::front(&ticket, count)),
+        Reply::Refused { why } => printing::put_refused(page, stream, why),
+        Reply::Done { count } => printing::put_sheet(page, stream, bytes::front(&ticket, count)),
     }
 }
 
 // The market holds them, so that nothing is added up here.
-fn print_free_hours(market: Market) {
+fn put_free_hours(page: &mut [u8], stream: Stream, market: Market) -> Stream {
     let ticket = market.ticket;
     let growers = market.grower_free_hours;
     let pilots = market.pilot_free_hours;
-    printing::free_hours(&ticket, growers, pilots);
+    printing::put_free_hours(page, stream, &ticket, growers, pilots)
 }
 
-fn print_ticket(market: Market) {
+fn put_ticket(page: &mut [u8], stream: Stream, market: Market) -> Stream {
     let ticket = market.ticket;
-    printing::ticket(tables::ticket_front(&ticket));
+    printing::put_document(page, stream, Layout::Ticket, tables::ticket_front(&ticket))
 }
 
-fn save_to(market: Market, ticket_name: &[u8], settlement_name: &[u8]) {
-    if save(market, ticket_name, settlement_name) {
-        accepted();
-    } else {
-        say(STDOUT_FILENO, b"FAILED\n");
+fn put_saved(page: &mut [u8], stream: Stream, market: Market, line: &[u8]) -> Stream {
+    if save(market, word(line, 1), word(line, 2)) {
+        return put(page, stream, b"OK\n");
     }
+    put(page, stream, b"FAILED\n")
 }
 
-fn help() {
-    say(
-        STDOUT_FILENO,
+fn put_help(page: &mut [u8], stream: Stream) -> Stream {
+    let calls = put(
+        page,
+        stream,
         b"grower I hours H\npilot J hours H\npair I J TARIFF_CAP A B FREE_CAP C\n",
     );
-    say(
-        STDOUT_FILENO,
+    put(
+        page,
+        calls,
         b"sheet\nfree\nticket\nsave TICKET SETTLEMENT\nhelp\n",
-    );
+    )
 }
 
-fn no_call(why: &[u8]) {
-    say(STDOUT_FILENO, b"?\n");
-    say(STDERR_FILENO, why);
+// The answer to a line that is no call, and why it is none.
+fn put_no_call(page: &mut [u8], stream: Stream) -> Stream {
+    put(page, stream, b"?\n")
 }
 
-pub(crate) fn too_long() {
-    no_call(b"line: more than 4096 bytes\n");
-}
-
-fn fault_words(fault: Fault) {
+fn tell_fault(fault: Fault) {
     match fault {
-        Fault::NoSuchCall => no_call(b"line: no such call; help lists them\n"),
-        Fault::WordCount => no_call(b"line: too many words, or too few\n"),
-        Fault::NoHours => no_call(b"line: the word hours is missing\n"),
-        Fault::NoNumber => no_call(b"line: not a number up to 65535\n"),
+        Fault::NoSuchCall => complain(b"line: no such call; help lists them"),
+        Fault::WordCount => complain(b"line: too many words, or too few"),
+        Fault::NoHours => complain(b"line: the word hours is missing"),
+        Fault::NoNumber => complain(b"line: not a number up to 65535"),
     }
 }
 
-// A call that changes nothing.
-fn show(market: Market, line: &[u8], call: Call) {
+// What a call answers that changes nothing.
+fn put_shown(page: &mut [u8], stream: Stream, market: Market, line: &[u8], call: Call) -> Stream {
     match call {
-        Call::Sheet => print_sheet(market),
-        Call::Free => print_free_hours(market),
-        Call::Ticket => print_ticket(market),
-        Call::Save => save_to(market, word(line, 1), word(line, 2)),
-        Call::Help => help(),
-        Call::NoCall { fault } => fault_words(fault),
-        _ => {}
+        Call::Sheet => put_sheet(page, stream, market),
+        Call::Free => put_free_hours(page, stream, market),
+        Call::Ticket => put_ticket(page, stream, market),
+        Call::Save => put_saved(page, stream, market, line),
+        Call::Help => put_help(page, stream),
+        Call::NoCall { fault: _ } => put_no_call(page, stream),
+        _ => stream,
+    }
+}
+
+// Answers such a call, and tells whether the answer could not be written.
+fn show(market: Market, line: &[u8], call: Call) -> bool {
+    let mut page = io::large_buffer();
+    let told = put_shown(&mut page, files::to(STDOUT_FILENO), market, line, call);
+    let done = files::finish(&page, told);
+    if let Call::NoCall { fault } = call {
+        tell_fault(fault);
+    }
+    !done
+}
+
+pub(crate) fn too_long(market: Market) -> After {
+    let mut page = io::buffer();
+    let told = put_no_call(&mut page, files::to(STDOUT_FILENO));
+    let done = files::finish(&page, told);
+    complain(b"line: more than 4096 bytes");
+    After {
+        market,
+        failed: !done,
     }
 }
 
 // The market after a line.
-pub(crate) fn answer(market: Market, line: &[u8]) -> Market {
+pub(crate) fn answer(market: Market, line: &[u8]) -> After {
     let call = call_of(line);
     match call {
         Call::GrowerHours { grower, hours } => {
@@ -128,8 +164,8 @@ pub(crate) fn answer(market: Market, line: &[u8]) -> Market {
             changed(open_market::set_pair(market, grower, pilot, terms))
         }
         _ => {
-            show(market, line, call);
-            market
+            let failed = show(market, line, call);
+            After { market, failed }
         }
     }
 }

@@ -9,12 +9,23 @@ mod saving;
 
 use dialogue::talk;
 
+// How a desk ended: the ticket was refused, reading or writing failed, or the input ended.
+pub enum Served {
+    Refused { why: u8 },
+    Failed,
+    Done,
+}
+
 // Opens the market of a ticket's file, and answers calls until the input ends.
-pub fn serve(ticket: &[u8]) {
+pub fn serve(ticket: &[u8]) -> Served {
     let answer = open_market::open(ticket);
-    if answer.refusal == 0 {
-        talk(answer.market);
-    } else {
-        printing::refused(answer.refusal);
+    if answer.refusal != 0 {
+        return Served::Refused {
+            why: answer.refusal,
+        };
     }
+    if talk(answer.market) {
+        return Served::Done;
+    }
+    Served::Failed
 }

@@ -2,8 +2,10 @@
 use files::Got;
 
 fn main() {
+    let mut name = io::buffer();
+    let length = os::arg(1, &mut name);
     let mut ticket = files::ticket_bytes();
-    let got = files::read(1, &mut ticket);
+    let got = files::read(&name[..length], &mut ticket);
     if let Got::Bytes { count } = got {
         desk::serve(bytes::front(&ticket, count));
     }

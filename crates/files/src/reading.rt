@@ -1,9 +1,15 @@
-// Reading a file. What fails is told on standard error, with the system's reason.
+// Reading a file, or standard input where it is named `-`. What fails is told on standard error, with the system's reason.
+use crate::messages::fail;
+use libc::STDIN_FILENO;
 
 // How many bytes were read, unless reading failed.
 pub enum Got {
     Failed,
     Bytes { count: usize },
+}
+
+pub fn is_dash(name: &[u8]) -> bool {
+    check::same(name, b"-")
 }
 
 // Reads from an open file as far as the buffer goes. A read that fails leaves fewer bytes, and so does the end of the file: only the
@@ -12,30 +18,23 @@ fn read_open(fd: i32, name: &[u8], buffer: &mut [u8]) -> Got {
     let count = io::read_full(fd, buffer);
     let mut byte = [0u8; 1];
     if libc::read(fd, &mut byte) < 0 {
-        os::fail(name);
+        fail(name);
         return Got::Failed;
     }
     Got::Bytes { count }
 }
 
-fn read_file(name: &[u8], buffer: &mut [u8]) -> Got {
+// Reads a file, as far as the buffer goes.
+pub fn read(name: &[u8], buffer: &mut [u8]) -> Got {
+    if is_dash(name) {
+        return read_open(STDIN_FILENO, name, buffer);
+    }
     let fd = os::open_read(name);
     if fd < 0 {
-        os::fail(name);
+        fail(name);
         return Got::Failed;
     }
     let got = read_open(fd, name, buffer);
     libc::close(fd);
     got
-}
-
-// Reads the file that an argument names, as far as the buffer goes.
-pub fn read(argument: usize, buffer: &mut [u8]) -> Got {
-    let mut name = io::buffer();
-    let length = os::arg(argument, &mut name);
-    if os::errno() != 0 {
-        os::fail(b"name");
-        return Got::Failed;
-    }
-    read_file(&name[..length], buffer)
 }

@@ -1,4 +1,12 @@
 // Writing a file, so that no half of it ever stands under its name. What fails is told on standard error, with the system's reason.
+use crate::links::beside;
+use crate::links::followed;
+use crate::messages::fail;
+use crate::reading::is_dash;
+use libc::STDOUT_FILENO;
+
+// No file: the name is free.
+const NO_FILE: i32 = -1;
 
 // Writes bytes to an open file and closes it, and answers whether all of them are stored.
 fn store(fd: i32, bytes: &[u8]) -> bool {
@@ -13,89 +21,108 @@ fn store(fd: i32, bytes: &[u8]) -> bool {
     libc::close(fd) == 0
 }
 
-// A name may be given to the new file if it is free, or that of a file that can be written. A device can not be stored to, and so
-// `fsync` tells it from a file: a renamed file would take its place.
-fn is_replaceable(name: &[u8]) -> bool {
-    let fd = os::open_update(name);
-    if fd < 0 {
-        return os::errno() == libc::ENOENT;
+// A new file under a name that nobody has, which nobody else may read.
+fn private_file(name: &mut [u8], length: usize) -> i32 {
+    if length <= name.len() {
+        os::create_temp(&mut name[..length])
+    } else {
+        -1
     }
-    let is_file = libc::fsync(fd) == 0;
+}
+
+// The same with the rights that the system gives to new files: the name was free a moment ago, and if it is not, `create` refuses it.
+fn public_file(name: &mut [u8], length: usize) -> i32 {
+    let fd = private_file(name, length);
+    if fd < 0 {
+        return fd;
+    }
     libc::close(fd);
-    is_file
+    os::unlink(bytes::front(name, length));
+    os::create(bytes::front(name, length))
 }
 
-// Writes a new file beside the one that is named, and gives it the name once it is whole: an older file of that name stays, or is
-// replaced by a whole one. Answers whether it was.
-fn replace(name: &[u8], beside: &[u8], bytes: &[u8]) -> bool {
-    let fd = os::create(beside);
+// A new file in the place of an open one, with its owner and rights, or of none.
+fn new_file(name: &mut [u8], length: usize, old: i32) -> i32 {
+    if old < 0 {
+        return public_file(name, length);
+    }
+    let fd = private_file(name, length);
+    if 0 <= fd {
+        file_modes::keep(old, fd);
+    }
+    fd
+}
+
+// Fills a new file and gives it the name of the old one, which stays as it was until then. Where that fails the new one is removed.
+fn exchange_files(fd: i32, new: &[u8], target: &[u8], name: &[u8], bytes: &[u8]) -> bool {
+    if store(fd, bytes) && os::rename(new, target) == 0 {
+        return true;
+    }
+    fail(name);
+    os::unlink(new);
+    false
+}
+
+// Writes a new file beside the one that is named, or beside the one that its link leads to, and gives it that name once it is whole.
+fn replace(name: &[u8], old: i32, bytes: &[u8]) -> bool {
+    let mut target = io::buffer();
+    let target_length = followed(name, &mut target);
+    let mut new = io::buffer();
+    let new_length = beside(bytes::front(&target, target_length), &mut new);
+    let fd = new_file(&mut new, new_length, old);
     if fd < 0 {
-        os::fail(beside);
+        fail(name);
         return false;
     }
-    if !store(fd, bytes) {
-        os::fail(beside);
-        os::unlink(beside);
-        return false;
-    }
-    if os::rename(beside, name) < 0 {
-        os::fail(name);
-        os::unlink(beside);
-        return false;
-    }
-    true
+    exchange_files(
+        fd,
+        bytes::front(&new, new_length),
+        bytes::front(&target, target_length),
+        name,
+        bytes,
+    )
 }
 
-fn put(name: &mut [u8; 4096], at: usize, byte: u8) {
-    if at < 4096 {
-        name[at] = byte;
+// Writes bytes to a device or a pipe: a renamed file would take its place.
+fn write_through(fd: i32, name: &[u8], bytes: &[u8]) -> bool {
+    let done = io::write_all(fd, bytes);
+    if !done {
+        fail(name);
     }
+    done
 }
 
-// The first 4096 bytes of a name, with zeros after them.
-fn copied(name: &[u8]) -> [u8; 4096] {
-    let mut copy = io::buffer();
-    for k in 0..name.len() {
-        put(&mut copy, k, name[k]);
+fn write_over(name: &[u8], old: i32, bytes: &[u8]) -> bool {
+    if file_modes::is_file(old) {
+        return replace(name, old, bytes);
     }
-    copy
+    write_through(old, name, bytes)
 }
 
-// A name with `.new` after it. Where that is too long for a path it is left out.
-fn new_name(name: &[u8]) -> [u8; 4096] {
-    let mut beside = copied(name);
-    let length = name.len();
-    if length < 4092 {
-        put(&mut beside, length, b'.');
-        put(&mut beside, length + 1, b'n');
-        put(&mut beside, length + 2, b'e');
-        put(&mut beside, length + 3, b'w');
-    }
-    beside
-}
-
-// How long that name is. Where `.new` was left out it is all 4096 bytes, which the system refuses as too long.
-fn new_length(length: usize) -> usize {
-    if length < 4092 { length + 4 } else { 4096 }
-}
-
-// Writes the file of a name, and answers whether it did.
+// Writes the file of a name, which is free or that of a file that can be written. Answers whether it did. An open for appending leaves a
+// file as it is, and waits for a pipe's reader.
 pub fn write_named(name: &[u8], bytes: &[u8]) -> bool {
-    if !is_replaceable(name) {
-        os::fail(name);
+    let old = os::open_append(name);
+    if old < 0 {
+        if os::errno() == libc::ENOENT {
+            return replace(name, NO_FILE, bytes);
+        }
+        fail(name);
         return false;
     }
-    let beside = new_name(name);
-    replace(name, bytes::front(&beside, new_length(name.len())), bytes)
+    let done = write_over(name, old, bytes);
+    libc::close(old);
+    done
 }
 
-// Writes the file that an argument names.
-pub fn write(argument: usize, bytes: &[u8]) {
-    let mut name = io::buffer();
-    let length = os::arg(argument, &mut name);
-    if os::errno() != 0 {
-        os::fail(b"name");
-        return;
+// The same, or standard output where the name is `-`.
+pub fn write(name: &[u8], bytes: &[u8]) -> bool {
+    if !is_dash(name) {
+        return write_named(name, bytes);
     }
-    write_named(&name[..length], bytes);
+    let done = io::write_all(STDOUT_FILENO, bytes);
+    if !done {
+        fail(name);
+    }
+    done
 }

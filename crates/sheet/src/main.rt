@@ -1,4 +1,5 @@
-// Reads a ticket from standard input and prints it settled, or its refusal.
+// Reads a ticket from standard input and prints it settled, or its refusal. What the system fails at is told on standard error, and then
+// nothing is printed.
 use libc::STDIN_FILENO;
 use libc::STDOUT_FILENO;
 use reader::Reply;
@@ -12,18 +13,29 @@ fn page() -> [u8; 8216] {
     [0; sheets::PAGE]
 }
 
-fn write_front(text: &[u8], count: usize) {
-    if count <= text.len() {
-        io::write_all(STDOUT_FILENO, &text[..count]);
+// Whether the input can be read on. A read that fails leaves fewer bytes, and so does the end of the input: only the next read tells them
+// apart.
+fn is_readable() -> bool {
+    let mut byte = [0u8; 1];
+    0 <= libc::read(STDIN_FILENO, &mut byte)
+}
+
+fn print(ticket: &[u8]) {
+    let mut text = page();
+    let reply = sheets::sheet(ticket, &mut text);
+    if let Reply::Done { count } = reply {
+        if !io::write_all(STDOUT_FILENO, bytes::front(&text, count)) {
+            os::fail(b"sheet: standard output");
+        }
     }
 }
 
 fn main() {
     let mut ticket = ticket_bytes();
     let length = io::read_full(STDIN_FILENO, &mut ticket);
-    let mut text = page();
-    let reply = sheets::sheet(&ticket[..length], &mut text);
-    if let Reply::Done { count } = reply {
-        write_front(&text, count);
+    if is_readable() {
+        print(&ticket[..length]);
+    } else {
+        os::fail(b"sheet: standard input");
     }
 }

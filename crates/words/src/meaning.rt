@@ -1,43 +1,24 @@
-// What a verdict or a refusal means, in words.
+// What a verdict or a refusal means, in words, put into a text.
 use crate::spares::Spare;
 use crate::spares::of_grower;
 use crate::spares::of_pilot;
-use files::counted;
-use files::end_line;
-use files::say;
-use libc::STDOUT_FILENO;
+use files::Stream;
+use files::fill_in;
+use files::put;
 use market::Deal;
 use reader::Reply;
 use tables::Quantity;
+use texts::Meaning;
+use verdicts::Values;
 use verdicts::Verdict;
 
-fn refusal_words(fd: i32, why: u8) {
-    match why {
-        1 | 11 => say(fd, b"it ends early"),
-        2 | 12 => say(fd, b"a number of more than two bytes"),
-        3 | 13 => say(fd, b"a number padded with 00"),
-        4 | 14 => say(fd, b"another kind of file"),
-        5 => say(fd, b"growers or pilots not 1 to 16"),
-        15 => say(fd, b"growers or pilots unlike the ticket's"),
-        6 => say(fd, b"hours above 60"),
-        7 => say(fd, b"a cap above 60 or an amount above 500"),
-        8 => say(fd, b"an amount in a deal of cap 0"),
-        17 => say(fd, b"not sound"),
-        18 => say(
-            fd,
-            b"a cap above 0, but the grower or the pilot has no hours",
-        ),
-        19 => say(fd, b"no such grower or pilot"),
-        20 => say(fd, b"a number breaks the limits of a ticket"),
-        21 => say(
-            fd,
-            b"the list ends early, has more than 8 windows of a party or numbers left",
-        ),
-        22 => say(
-            fd,
-            b"one is empty, past hour 168 or begins before the last has closed",
-        ),
-        _ => say(fd, b"something is left at its end"),
+// The words of a refusal's number, or of a verdict's.
+fn put_meaning(page: &mut [u8], stream: Stream, what: Meaning, number: u8) -> Stream {
+    let mut text = [0u8; 96];
+    let reply = texts::telling(what, number, &mut text);
+    match reply {
+        Reply::Refused { why: _ } => stream,
+        Reply::Done { count } => put(page, stream, bytes::front(&text, count)),
     }
 }
 
@@ -46,212 +27,203 @@ pub fn is_of_ticket(why: u8) -> bool {
     why < 11 || why == 18
 }
 
-fn refused_thing(fd: i32, why: u8) {
-    match why {
-        0..=10 | 18 => say(fd, b"ticket: "),
-        19 | 20 => say(fd, b"call: "),
-        21 | 22 => say(fd, b"windows: "),
-        _ => say(fd, b"settlement: "),
-    }
+// What is refused, and why.
+pub fn put_refusal(page: &mut [u8], stream: Stream, why: u8) -> Stream {
+    put_meaning(page, stream, Meaning::Refusal, why)
 }
 
-// Which file or call is refused, and why.
-pub fn refusal(fd: i32, why: u8) {
-    refused_thing(fd, why);
-    refusal_words(fd, why);
-    end_line(fd);
-}
-
-fn deal_words(deal: Deal) {
+fn put_deal(page: &mut [u8], stream: Stream, deal: Deal) -> Stream {
     match deal {
-        Deal::Tariff => say(STDOUT_FILENO, b", tariff deal"),
-        Deal::Free => say(STDOUT_FILENO, b", free deal"),
+        Deal::Tariff => put(page, stream, b", tariff deal"),
+        Deal::Free => put(page, stream, b", free deal"),
     }
 }
 
-fn grower(i: usize) {
-    counted(STDOUT_FILENO, b"grower ", i as u64);
+fn put_pair(page: &mut [u8], stream: Stream, i: usize, j: usize, deal: Deal) -> Stream {
+    let pair = fill_in(page, stream, b"grower %, pilot %", &[i as u64, j as u64]);
+    let whole = put_deal(page, pair, deal);
+    put(page, whole, b": ")
 }
 
-fn pilot(j: usize) {
-    counted(STDOUT_FILENO, b"pilot ", j as u64);
+// Whom a verdict names: nobody, a grower, a pilot, or a pair and its deal.
+fn put_named(
+    page: &mut [u8],
+    stream: Stream,
+    verdict: u8,
+    i: usize,
+    j: usize,
+    deal: Deal,
+) -> Stream {
+    match verdict {
+        1 => stream,
+        5 => fill_in(page, stream, b"grower %: ", &[i as u64]),
+        6 => fill_in(page, stream, b"pilot %: ", &[j as u64]),
+        _ => put_pair(page, stream, i, j, deal),
+    }
 }
 
-fn deal_of(i: usize, j: usize, deal: Deal) {
-    grower(i);
-    say(STDOUT_FILENO, b", ");
-    pilot(j);
-    deal_words(deal);
-    say(STDOUT_FILENO, b": ");
+// A verdict, by its number on paper.
+pub fn put_verdict(
+    page: &mut [u8],
+    stream: Stream,
+    verdict: u8,
+    grower: usize,
+    pilot: usize,
+    deal: Deal,
+) -> Stream {
+    let named = put_named(page, stream, verdict, grower, pilot, deal);
+    put_meaning(page, named, Meaning::Verdict, verdict)
 }
 
-fn end(words: &[u8]) {
-    say(STDOUT_FILENO, words);
-    end_line(STDOUT_FILENO);
-}
-
-fn given_up(spare: Spare) {
+fn put_given_up(page: &mut [u8], stream: Stream, spare: Spare) -> Stream {
     match spare {
-        Spare::Nothing => say(STDOUT_FILENO, b" has no spare"),
-        Spare::FreeHour => say(STDOUT_FILENO, b" gives up a free hour, worth 0"),
+        Spare::Nothing => put(page, stream, b" has no spare"),
+        Spare::FreeHour => put(page, stream, b" gives up a free hour, worth 0"),
         Spare::Hour {
             partner: _,
             deal: _,
             worth: _,
-        } => say(STDOUT_FILENO, b" gives up an hour with "),
+        } => put(page, stream, b" gives up an hour with "),
     }
 }
 
-fn deal_and_worth(deal: Deal, worth: u16) {
-    deal_words(deal);
-    counted(STDOUT_FILENO, b", worth ", worth as u64);
-}
-
-fn spare_of_grower(i: usize, offer: Spare) {
-    grower(i);
-    given_up(offer);
-    if let Spare::Hour {
+// An hour of a deal with somebody.
+fn put_hour(page: &mut [u8], stream: Stream, who: &[u8], spare: Spare) -> Stream {
+    let Spare::Hour {
         partner,
         deal,
         worth,
-    } = offer {
-        pilot(partner);
-        deal_and_worth(deal, worth);
-    }
-    end_line(STDOUT_FILENO);
+    } = spare
+    else {
+        return put(page, stream, b"\n");
+    };
+    let named = fill_in(page, stream, who, &[partner as u64]);
+    let dealt = put_deal(page, named, deal);
+    fill_in(page, dealt, b", worth %\n", &[worth as u64])
 }
 
-fn spare_of_pilot(j: usize, offer: Spare) {
-    pilot(j);
-    given_up(offer);
-    if let Spare::Hour {
-        partner,
-        deal,
-        worth,
-    } = offer {
-        grower(partner);
-        deal_and_worth(deal, worth);
-    }
-    end_line(STDOUT_FILENO);
+fn put_grower_spare(page: &mut [u8], stream: Stream, i: usize, spare: Spare) -> Stream {
+    let named = fill_in(page, stream, b"grower %", &[i as u64]);
+    let told = put_given_up(page, named, spare);
+    put_hour(page, told, b"pilot %", spare)
 }
 
-fn earned(gain: [[u16; 16]; 16], i: usize, j: usize, words: &[u8]) {
-    counted(STDOUT_FILENO, words, grid::cell(gain, i, j) as u64);
+fn put_pilot_spare(page: &mut [u8], stream: Stream, j: usize, spare: Spare) -> Stream {
+    let named = fill_in(page, stream, b"pilot %", &[j as u64]);
+    let told = put_given_up(page, named, spare);
+    put_hour(page, told, b"grower %", spare)
 }
 
-// What an hour more of a deal earns the two, and the hours that they would give up for it.
-fn gains(ticket: &[u16], settlement: &[u16], i: usize, j: usize, deal: Deal) {
-    say(STDOUT_FILENO, b"an hour more earns them");
+fn earned(ticket: &[u16], quantity: Quantity, i: usize, j: usize) -> u64 {
+    grid::cell(tables::square(ticket, quantity), i, j) as u64
+}
+
+// What an hour more of a deal earns the two.
+fn put_earned(
+    page: &mut [u8],
+    stream: Stream,
+    ticket: &[u16],
+    i: usize,
+    j: usize,
+    deal: Deal,
+) -> Stream {
     match deal {
         Deal::Tariff => {
-            earned(tables::square(ticket, Quantity::TariffGain), i, j, b" ");
-            earned(tables::square(ticket, Quantity::TariffPay), i, j, b" and ");
+            let gain = earned(ticket, Quantity::TariffGain, i, j);
+            let pay = earned(ticket, Quantity::TariffPay, i, j);
+            fill_in(
+                page,
+                stream,
+                b"an hour more earns them % and %\n",
+                &[gain, pay],
+            )
         }
         Deal::Free => {
-            earned(tables::square(ticket, Quantity::JointGain), i, j, b" ");
-            say(STDOUT_FILENO, b" together");
+            let joint_gain = earned(ticket, Quantity::JointGain, i, j);
+            fill_in(
+                page,
+                stream,
+                b"an hour more earns them % together\n",
+                &[joint_gain],
+            )
         }
     }
-    end_line(STDOUT_FILENO);
-    spare_of_grower(i, of_grower(ticket, settlement, i, j, deal));
-    spare_of_pilot(j, of_pilot(ticket, settlement, i, j, deal));
 }
 
-// The same of files, which have been read before.
-fn gains_of_files(ticket: &[u8], settlement: &[u8], i: usize, j: usize, deal: Deal) {
-    let mut terms = numbers::ticket_list();
-    let Reply::Done { count } = reader::unpack(ticket, &mut terms) else {
-        return;
-    };
-    let numbers = numbers::front(&terms, count);
-    let growers = tables::growers(numbers);
-    let pilots = tables::pilots(numbers);
-    let mut agreed = numbers::settlement_list();
-    let Reply::Done { count: agreements } = reader::read_settlement(
-        settlement,
-        growers,
-        pilots,
-        &mut agreed,
-    ) else {
-        return;
-    };
-    gains(numbers, numbers::front(&agreed, agreements), i, j, deal);
+// The same, and the hours that they would give up for it.
+fn put_gains(
+    page: &mut [u8],
+    stream: Stream,
+    ticket: &[u16],
+    settlement: &[u16],
+    i: usize,
+    j: usize,
+    deal: Deal,
+) -> Stream {
+    let told = put_earned(page, stream, ticket, i, j, deal);
+    let by_grower = of_grower(ticket, settlement, i, j, deal);
+    let given = put_grower_spare(page, told, i, by_grower);
+    let by_pilot = of_pilot(ticket, settlement, i, j, deal);
+    put_pilot_spare(page, given, j, by_pilot)
 }
 
-// A deal over its cap, or with a wrong pay.
-fn pair_fault(i: usize, j: usize, deal: Deal, paid: bool) {
-    deal_of(i, j, deal);
-    if paid {
-        end(b"wrong pay");
-    } else {
-        end(b"more hours than its cap");
+// What follows the words of verdict 1. Where the ticket has a tariff deal no worth is promised.
+fn put_worth(page: &mut [u8], stream: Stream, ticket: &[u16], worth: u64) -> Stream {
+    let caps = tables::square(ticket, Quantity::TariffCap);
+    if totals::has_tariff_deal(tables::growers(ticket), tables::pilots(ticket), caps) {
+        return stream;
     }
+    fill_in(
+        page,
+        stream,
+        b"worth %: no settlement of this ticket is worth more\n",
+        &[worth],
+    )
 }
 
-fn over_hours() {
-    end(b": more hours than his own");
-}
-
-fn grower_over(i: usize) {
-    grower(i);
-    over_hours();
-}
-
-fn pilot_over(j: usize) {
-    pilot(j);
-    over_hours();
-}
-
-// A deal that is idle or blocks.
-fn deal_fault(ticket: &[u8], settlement: &[u8], i: usize, j: usize, deal: Deal, idle: bool) {
-    deal_of(i, j, deal);
-    if idle {
-        end(b"idle, below its cap");
-    } else {
-        end(b"blocks");
-    }
-    gains_of_files(ticket, settlement, i, j, deal);
-}
-
-// Whether a ticket, which has been read before, has a tariff deal: then no worth is promised.
-fn has_tariff_deal(ticket: &[u8]) -> bool {
-    let mut list = numbers::ticket_list();
-    let Reply::Done { count } = reader::unpack(ticket, &mut list) else {
-        return true;
-    };
-    let terms = numbers::front(&list, count);
-    let caps = tables::square(terms, Quantity::TariffCap);
-    totals::has_tariff_deal(tables::growers(terms), tables::pilots(terms), caps)
-}
-
-fn sound(ticket: &[u8], worth: u64) {
-    end(b"sound: no deal is idle or blocks");
-    if has_tariff_deal(ticket) {
-        return;
-    }
-    counted(STDOUT_FILENO, b"worth ", worth);
-    end(b": no settlement of this ticket is worth more");
-}
-
-// The verdict on a settlement of a ticket, both as the bytes of files, by its number on paper.
-pub fn explain(ticket: &[u8], settlement: &[u8], verdict: Verdict) {
-    let values = verdicts::values_of(verdict);
+// What follows the words of a verdict, for those that have more to say.
+fn put_more(
+    page: &mut [u8],
+    stream: Stream,
+    ticket: &[u16],
+    settlement: &[u16],
+    values: Values,
+) -> Stream {
+    let verdict = values.verdict;
     let deal = values.deal;
-    let number = values.verdict;
-    match number {
-        0 => refusal(STDOUT_FILENO, values.refusal),
-        1 => sound(ticket, values.worth),
-        2 | 3 => pair_fault(values.grower, values.pilot, deal, false),
-        4 => pair_fault(values.grower, values.pilot, deal, true),
-        5 => grower_over(values.grower),
-        6 => pilot_over(values.pilot),
-        _ => deal_fault(
+    match verdict {
+        1 => put_worth(page, stream, ticket, values.worth),
+        7 | 8 => put_gains(
+            page,
+            stream,
             ticket,
             settlement,
             values.grower,
             values.pilot,
             deal,
-            number == 7,
         ),
+        _ => stream,
     }
+}
+
+// The verdict on a settlement of a ticket, both as lists that have been read: what it is, and why.
+pub fn explain(
+    page: &mut [u8],
+    stream: Stream,
+    ticket: &[u16],
+    settlement: &[u16],
+    verdict: Verdict,
+) -> Stream {
+    let values = verdicts::values_of(verdict);
+    let deal = values.deal;
+    let told = put_verdict(
+        page,
+        stream,
+        values.verdict,
+        values.grower,
+        values.pilot,
+        deal,
+    );
+    let ended = put(page, told, b"\n");
+    put_more(page, ended, ticket, settlement, values)
 }

@@ -117,6 +117,36 @@ fn cheapest(
     }
 }
 
+// A sum that stays at the largest number.
+fn plus(x: u32, y: u16) -> u32 {
+    if x < 4294901760 { x + y as u32 } else { x }
+}
+
+fn sum(from: u32, row: [u16; 16]) -> u32 {
+    let mut total = from;
+    for k in 0..16usize {
+        total = plus(total, row[k]);
+    }
+    total
+}
+
+// The hours that a party flies in all his deals.
+pub(crate) fn flown_by_grower(settlement: &[u16], i: usize) -> u32 {
+    let by_tariff = row(tables::square(settlement, Quantity::TariffHours), i);
+    sum(
+        sum(0, by_tariff),
+        row(tables::square(settlement, Quantity::FreeDealHours), i),
+    )
+}
+
+pub(crate) fn flown_by_pilot(settlement: &[u16], j: usize) -> u32 {
+    let by_tariff = column(tables::square(settlement, Quantity::TariffHours), j);
+    sum(
+        sum(0, by_tariff),
+        column(tables::square(settlement, Quantity::FreeDealHours), j),
+    )
+}
+
 // The cheapest spare of grower i for his deal with pilot j.
 pub(crate) fn of_grower(
     ticket: &[u16],
