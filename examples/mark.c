@@ -1,6 +1,7 @@
 /*
  * Marks a settlement file against its ticket file, says the verdict in words, and
- * prints the worth and the account of a sound settlement.
+ * prints the worth and the account of a sound settlement. The exit status is 0 for a
+ * sound settlement, 1 for another, and 2 for a refusal or a file that is not read.
  */
 #include "hours_exchange.h"
 
@@ -12,28 +13,6 @@
  * refused as the whole would be.
  */
 #define FILE_BYTES 4096
-
-static const char *const refusals[] = {
-    "not refused",
-    "the ticket ends early",
-    "a number of the ticket is too long",
-    "a number of the ticket is padded",
-    "the ticket's kind is not 1",
-    "the ticket's growers or pilots are not 1 to 16",
-    "the ticket has hours above 60",
-    "the ticket has a cap above 60 or an amount above 500",
-    "the ticket has an amount in a deal of cap 0",
-    "the ticket has bytes left over",
-    "the buffer is too short",
-    "the settlement ends early",
-    "a number of the settlement is too long",
-    "a number of the settlement is padded",
-    "the settlement's kind is not 2",
-    "the settlement's growers or pilots are not the ticket's",
-    "the settlement has bytes left over",
-    "the settlement is not sound",
-    "the ticket has a cap above 0, but the grower or the pilot has no hours",
-};
 
 static int read_file(const char *name, uint8_t *bytes, size_t *length)
 {
@@ -53,33 +32,36 @@ static int read_file(const char *name, uint8_t *bytes, size_t *length)
     return !failed;
 }
 
-static void print_fault(uint64_t mark)
+/* The library's words for a refusal or a verdict, and the line's end. */
+static void print_text(uint32_t what, uint32_t number)
+{
+    uint8_t text[EXCHANGE_TEXT_BYTES];
+    uint32_t length = exchange_text(what, number, text, sizeof text);
+
+    printf("%.*s\n", (int)length, (const char *)text);
+}
+
+/* Who is at fault, as far as the verdict names somebody, and the words for it. */
+static void print_verdict(uint64_t mark)
 {
     unsigned grower = exchange_mark_grower(mark);
     unsigned pilot = exchange_mark_pilot(mark);
     const char *deal = exchange_mark_deal(mark) == 0 ? "tariff" : "free";
 
     switch (exchange_mark_verdict(mark)) {
-    case EXCHANGE_TARIFF_OVER_CAP:
-    case EXCHANGE_FREE_OVER_CAP:
-        printf("grower %u and pilot %u fly more %s hours than their cap\n", grower, pilot, deal);
-        break;
-    case EXCHANGE_WRONG_PAY:
-        printf("the pay of grower %u and pilot %u is wrong\n", grower, pilot);
+    case EXCHANGE_SOUND:
         break;
     case EXCHANGE_GROWER_OVER_HOURS:
-        printf("grower %u has more hours in deals than of his own\n", grower);
+        printf("grower %u: ", grower);
         break;
     case EXCHANGE_PILOT_OVER_HOURS:
-        printf("pilot %u has more hours in deals than of his own\n", pilot);
-        break;
-    case EXCHANGE_IDLE:
-        printf("the %s deal of grower %u and pilot %u is idle\n", deal, grower, pilot);
+        printf("pilot %u: ", pilot);
         break;
     default:
-        printf("the %s deal of grower %u and pilot %u blocks\n", deal, grower, pilot);
+        printf("grower %u, pilot %u, %s deal: ", grower, pilot, deal);
         break;
     }
+    print_text(EXCHANGE_TEXT_VERDICT, exchange_mark_verdict(mark));
 }
 
 /* What everybody has of a sound settlement. Of its ticket the second byte is n, the third m. */
@@ -100,18 +82,10 @@ static void print_account(const uint8_t *ticket, const uint32_t *account)
     }
 }
 
-static void print_mark(uint64_t mark)
+static void print_refusal(uint32_t refusal)
 {
-    unsigned refusal = exchange_mark_refusal(mark);
-
-    if (refusal != 0) {
-        printf("refused with %u: %s\n", refusal, refusals[refusal]);
-    } else if (exchange_mark_verdict(mark) == EXCHANGE_SOUND) {
-        printf("sound: %u deals looked at\n", exchange_mark_count(mark));
-    } else {
-        printf("not sound, verdict %u: ", exchange_mark_verdict(mark));
-        print_fault(mark);
-    }
+    printf("refused with %u: ", (unsigned)refusal);
+    print_text(EXCHANGE_TEXT_REFUSAL, refusal);
 }
 
 int main(int argc, char **argv)
@@ -131,12 +105,16 @@ int main(int argc, char **argv)
     }
     if (!read_file(argv[1], ticket, &ticket_length) ||
         !read_file(argv[2], settlement, &settlement_length)) {
-        return 1;
+        return 2;
     }
     mark = exchange_mark(ticket, ticket_length, settlement, settlement_length);
-    print_mark(mark);
+    if (exchange_mark_refusal(mark) != 0) {
+        print_refusal(exchange_mark_refusal(mark));
+        return 2;
+    }
+    print_verdict(mark);
     if (exchange_mark_verdict(mark) != EXCHANGE_SOUND) {
-        return 0;
+        return 1;
     }
     /* 0 where there is a tariff deal too, so that only a greater worth is a promise. */
     worth = exchange_worth(ticket, ticket_length, settlement, settlement_length);
@@ -146,8 +124,8 @@ int main(int argc, char **argv)
     reply = exchange_account(ticket, ticket_length, settlement, settlement_length,
                              account, EXCHANGE_ACCOUNT_NUMBERS);
     if (exchange_refusal(reply) != 0) {
-        fprintf(stderr, "mark: no account: %s\n", refusals[exchange_refusal(reply)]);
-        return 1;
+        print_refusal(exchange_refusal(reply));
+        return 2;
     }
     print_account(ticket, account);
     return 0;

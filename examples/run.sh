@@ -1,29 +1,26 @@
 #!/usr/bin/env bash
-# Builds mark.c, market.c and windows.c, and a shared object for mark.py, over the proved archive, and runs them on the example files.
-# Each says what it must: the verdict, and of a sound settlement its worth, if there is no tariff deal, and the account; of an open
-# market everybody's free hours; of weekly windows the caps that they leave. So does the program exchange, in its own words; and what its
-# desk saves is what it holds, and sound.
+# Builds mark.c, market.c and windows.c over the library that make built, and runs them, mark.py and market.py on the example files. Each says
+# what it must: the verdict, and of a sound settlement its worth, if there is no tariff deal, and the account; of an open market everybody's free
+# hours; of weekly windows the caps that they leave. So does the command exchange, in its own words; and what its desk saves is what it holds,
+# and sound. Marking ends with the same exit status in all three: 0 for sound, 1 for not sound, 2 for a refusal.
 # The exit status is 1 if any does not, or if something cannot be built.
 set -eu
 root=$(cd "$(dirname "$0")/.." && pwd)
 examples=$root/examples
-archive=$root/target/staticlib/libexchange_c.a
-program=$root/target/bin/exchange
+built=$root/target/make
+archive=$built/libhours_exchange.a
+program=$built/exchange
 out=$root/target/examples
 
-if [ ! -f "$archive" ]; then
-    echo "proving the archive: rt staticlib exchange_c"
-    (cd "$root" && rt staticlib exchange_c >/dev/null) || { echo "run.sh: no archive"; exit 1; }
-fi
-if [ ! -x "$program" ]; then
-    echo "proving the program: rt check exchange"
-    (cd "$root" && rt check exchange >/dev/null) || { echo "run.sh: no program"; exit 1; }
+if [ ! -f "$archive" ] || [ ! -x "$program" ]; then
+    echo "building the library and the command: make"
+    make -C "$root" >/dev/null || { echo "run.sh: make failed"; exit 1; }
 fi
 mkdir -p "$out"
 for name in mark market windows; do
     gcc -std=c11 -O2 -Wall -Wextra -pedantic -Werror -I"$root/include" "$examples/$name.c" "$archive" -o "$out/$name" || exit 1
 done
-gcc -shared -Wl,--whole-archive "$archive" -Wl,--no-whole-archive -o "$out/libexchange_c.so" || exit 1
+export HOURS_EXCHANGE_LIBRARY=$built/libhours_exchange.so.1 PYTHONPATH=$root/python PYTHONDONTWRITEBYTECODE=1
 
 passed=0
 failed=0
@@ -41,17 +38,25 @@ compare() {
     fi
 }
 
-# expect TICKET SETTLEMENT LINE..
+# What a command prints, and its exit status.
+with_status() {
+    local status=0
+    "$@" || status=$?
+    echo "status $status"
+}
+
+# expect TICKET SETTLEMENT STATUS LINE..
 expect() {
-    local name="$1 $2" ticket=$examples/$1.ticket settlement=$examples/$2.settlement shown=$2 lines line
-    shift 2
-    lines=$(printf '%s\n' "$@")
+    local name="$1 $2" ticket=$examples/$1.ticket settlement=$examples/$2.settlement shown=$2 status=$3 lines line
+    shift 3
+    lines=$(printf '%s\n' "$@" "status $status")
     for line in "$@"; do
         printf '%-28s %s\n' "$shown" "$line"
         shown=
     done
-    compare "mark.c $name" "$lines" "$out/mark" "$ticket" "$settlement"
-    compare "mark.py $name" "$lines" python3 "$examples/mark.py" "$out/libexchange_c.so" "$ticket" "$settlement"
+    compare "mark.c $name" "$lines" with_status "$out/mark" "$ticket" "$settlement"
+    compare "mark.py $name" "$lines" with_status python3 "$examples/mark.py" "$ticket" "$settlement"
+    compare "exchange mark $name" "status $status" with_status eval "\"$program\" mark \"$ticket\" \"$settlement\" >/dev/null 2>&1"
 }
 
 # What `exchange mark` says before its own sheet.
@@ -97,29 +102,29 @@ settled_and_marked() {
     marked "$1" "$out/new.settlement"
 }
 
-expect small small-no_hours "not sound, verdict 7: the tariff deal of grower 0 and pilot 0 is idle"
-expect two_pilots two_pilots-sound "sound: 4 deals looked at" \
+expect small small-no_hours 1 "grower 0, pilot 0, tariff deal: idle, below its cap"
+expect two_pilots two_pilots-sound 0 "sound: no deal is idle or blocks" \
     "worth 10 euros: no settlement of this ticket is worth more" \
     "grower 0 gains 7 euros" \
     "pilot 0 is paid 3 euros, commission 0.20 euros" \
     "pilot 1 is paid 0 euros, commission 0.00 euros"
-expect two_pilots two_pilots-pay_above_3 "not sound, verdict 8: the free deal of grower 0 and pilot 1 blocks"
-expect both_deals both_deals-sound "sound: 2 deals looked at" \
+expect two_pilots two_pilots-pay_above_3 1 "grower 0, pilot 1, free deal: blocks"
+expect both_deals both_deals-sound 0 "sound: no deal is idle or blocks" \
     "grower 0 gains 0 euros" \
     "pilot 0 is paid 12 euros, commission 0.78 euros"
-expect both_deals both_deals-tariff_hour "not sound, verdict 8: the free deal of grower 0 and pilot 0 blocks"
-expect week week-sound "sound: 18 deals looked at" \
+expect both_deals both_deals-tariff_hour 1 "grower 0, pilot 0, free deal: blocks"
+expect week week-sound 0 "sound: no deal is idle or blocks" \
     "grower 0 gains 140 euros" \
     "grower 1 gains 60 euros" \
     "grower 2 gains 210 euros" \
     "pilot 0 is paid 300 euros, commission 17.20 euros" \
     "pilot 1 is paid 280 euros, commission 16.36 euros" \
     "pilot 2 is paid 285 euros, commission 16.57 euros"
-expect week week-one_hour_less "not sound, verdict 7: the tariff deal of grower 0 and pilot 0 is idle"
-expect week week-grower_over_hours "not sound, verdict 5: grower 1 has more hours in deals than of his own"
-expect week_pilot_off week-sound "refused with 18: the ticket has a cap above 0, but the grower or the pilot has no hours"
-expect week week-cut_short "refused with 11: the settlement ends early"
-expect week small-no_hours "refused with 15: the settlement's growers or pilots are not the ticket's"
+expect week week-one_hour_less 1 "grower 0, pilot 0, tariff deal: idle, below its cap"
+expect week week-grower_over_hours 1 "grower 1: more hours than his own"
+expect week_pilot_off week-sound 2 "refused with 18: ticket: a cap above 0, but the grower or the pilot has no hours"
+expect week week-cut_short 2 "refused with 11: settlement: it ends early"
+expect week small-no_hours 2 "refused with 15: settlement: growers or pilots unlike the ticket's"
 
 expect_program two_pilots two_pilots-sound "MARK 1 0 0 tariff 4" \
     "sound: no deal is idle or blocks" \
@@ -160,6 +165,8 @@ compare "market.c week" "$(printf '%s\n' "opened: refusal 0, verdict 1, count 18
     "free hours: growers 3 2 0, pilots 0 0 0" \
     "grower 0 is off: refusal 0, verdict 1, count 18" \
     "free hours: growers 0 0 0, pilots 0 0 1")" "$out/market" "$examples/week.ticket"
+compare "market.py week" "$(printf '%s\n' "free hours of growers: 1 0 0" "without pilot 1: 1 4 0" "sound: no deal is idle or blocks" \
+    "refused with 19: call: no such grower or pilot")" python3 "$examples/market.py" "$examples/week.ticket"
 compare "market.c week_pilot_off" "refused with 18" "$out/market" "$examples/week_pilot_off.ticket"
 
 compare "windows.c week" "$(printf '%s\n' "pair 0 0: tariff cap 2, free cap 3 to 1" \
@@ -176,6 +183,12 @@ compare "windows.c week" "$(printf '%s\n' "pair 0 0: tariff cap 2, free cap 3 to
     "a window begins before the last has closed: refused with 22")" "$out/windows" "$examples/week.ticket"
 compare "windows.c week_pilot_off" "refused with 18" "$out/windows" "$examples/week_pilot_off.ticket"
 
+rm -f "$out/answer.settlement"
+compare "exchange pack: an answer by hand" "" "$program" pack "$examples/two_pilots-answer.text" "$out/answer.settlement"
+compare "exchange pack: its bytes" "" cmp "$examples/two_pilots-pay_above_3.settlement" "$out/answer.settlement"
+compare "exchange pack: a mistake" "$(printf '%s\n' "REFUSED 7" "status 2")" \
+    with_status eval "\"$program\" pack \"$examples/two_pilots-mistaken.text\" \"$out/mistaken.ticket\" 2>/dev/null"
+
 cut=$out/cut.windows
 overlapping=$out/overlapping.windows
 sed '$d' "$examples/week.windows" >"$cut"
@@ -184,15 +197,15 @@ compare "exchange windows: a list that ends early" "REFUSED 21" narrowed "$cut"
 compare "exchange windows: windows that overlap" "REFUSED 22" narrowed "$overlapping"
 compare "exchange windows: the new ticket" written narrowed "$examples/week.windows"
 compare "exchange windows: its numbers" "$("$program" unpack "$examples/week.ticket" | sed '/^pair/d'
-    printf '%s\n' "pair 0 0 tariff cap 2 gains 40 45 free cap 1 gain 90" \
-        "pair 0 1 tariff cap 0 gains 0 0 free cap 3 gain 70" \
-        "pair 0 2 tariff cap 3 gains 50 50 free cap 0 gain 0" \
-        "pair 1 0 tariff cap 0 gains 0 0 free cap 0 gain 0" \
-        "pair 1 1 tariff cap 2 gains 30 55 free cap 0 gain 0" \
-        "pair 1 2 tariff cap 0 gains 0 0 free cap 0 gain 0" \
-        "pair 2 0 tariff cap 0 gains 0 0 free cap 2 gain 100" \
-        "pair 2 1 tariff cap 2 gains 35 30 free cap 0 gain 0" \
-        "pair 2 2 tariff cap 2 gains 45 60 free cap 2 gain 95")" "$program" unpack "$out/new.ticket"
+    printf '%s\n' "pair 0 0 tariff cap 2 gain 40 pay 45 free cap 1 joint gain 90" \
+        "pair 0 1 tariff cap 0 gain 0 pay 0 free cap 3 joint gain 70" \
+        "pair 0 2 tariff cap 3 gain 50 pay 50 free cap 0 joint gain 0" \
+        "pair 1 0 tariff cap 0 gain 0 pay 0 free cap 0 joint gain 0" \
+        "pair 1 1 tariff cap 2 gain 30 pay 55 free cap 0 joint gain 0" \
+        "pair 1 2 tariff cap 0 gain 0 pay 0 free cap 0 joint gain 0" \
+        "pair 2 0 tariff cap 0 gain 0 pay 0 free cap 2 joint gain 100" \
+        "pair 2 1 tariff cap 2 gain 35 pay 30 free cap 0 joint gain 0" \
+        "pair 2 2 tariff cap 2 gain 45 pay 60 free cap 2 joint gain 95")" "$program" unpack "$out/new.ticket"
 compare "exchange windows: its settlement" "$(printf '%s\n' "MARK 1 0 0 tariff 18" "sound: no deal is idle or blocks")" \
     settled_and_marked "$out/new.ticket"
 
