@@ -7,9 +7,6 @@ ghost use Rattle.layouts.specs.Squeezed.{outside, nextMode, kept, given,
 use lists::white;
 use pages::put;
 
-// Room for a squeezed text: one byte more than the longest text has.
-pub(crate) const ROOM: usize = 131072;
-
 // Where the next byte of a text stands: between words, in a word, or in a comment.
 pub(crate) enum Mode {
     Gap,
@@ -96,7 +93,7 @@ fn store(page: &mut [u8; 131072], at: usize, g: Output) -> usize
     }
 }
 
-// Writes a text squeezed at the front of a page, and returns how long it is.
+// Writes a text squeezed at the front of a page, and returns how long it is. The page has one byte more than the longest text.
 pub(crate) fn squeeze(text: &[u8], page: &mut [u8; 131072]) -> usize
     requires { ⌜ length (now text) ≤ mostText ⌝ }
     ensures { λ r. ⌜ Wrote (now (page .entry)) (now (page .exit)) 0 r (squeezed (now (text .entry))) × (r ≤ mostText + 1) ⌝ }

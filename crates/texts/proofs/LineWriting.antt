@@ -5,7 +5,7 @@ use mathlib.Core.List.{List, [], _∷_, _++_}
 use Prim.Native.Nat.{ℕ, _+_, _≤_, _<_}
 use native.Mathlib.Omega.{arith}
 use borrow.Author.Tests.{le-leb}
-use lib.ListN.{length, set, take, length-append}
+use lib.ListN.{length, take, length-append}
 use lib.Seq.{take-at}
 use Rattle.reader.specs.declared.Reply.{Reply}
 use Rattle.checks.specs.Refusals.{noRoom}
@@ -21,9 +21,6 @@ use Rattle.bytes.proofs.Spelling.{decimal-short}
 use Rattle.market.specs.declared.Deal.{Deal}
 use Rattle.market.specs.declared.Deal.the-variants.{Tariff, Free}
 use Rattle.texts.specs.MarkLine.{field, dealWord, headOf}
-
-pub wrote-byte : (l : List ℕ) (at b : ℕ) → Wrote l (set l at b) at (at + 1) (b ∷ [])
-wrote-byte l at b = record { stored = refl; ends = refl }
 
 -- what is left of the room after some bytes
 pub room-after : {l l₁ : List ℕ} {from at : ℕ} {x : List ℕ} (most room : ℕ) → Wrote l l₁ from at x → length x ≤ most →

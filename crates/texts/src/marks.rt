@@ -29,12 +29,7 @@ pub(crate) fn word(line: &mut [u8], at: usize, bytes: &[u8]) -> usize
     requires { ⌜ at + length (now bytes) ≤ length (now line) ⌝ }
     ensures { λ r. ⌜ Wrote (now (line .entry)) (now (line .exit)) at r (now (bytes .entry)) ⌝ }
 {
-    let mut here = at;
-    for k in 0..bytes.len() {
-        line[here] = bytes[k];
-        here += 1;
-    }
-    here
+    pages::put(line, at, bytes)
 }
 
 fn number(line: &mut [u8], at: usize, n: usize) -> usize
