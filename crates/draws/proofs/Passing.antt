@@ -16,7 +16,6 @@ use Rattle.checks.specs.Hours.{noted_all, none_of, none_in}
 use Rattle.checks.proofs.HourLaws.{none-noted}
 use Rattle.groups.specs.Groups.{pack}
 use Rattle.reader.specs.Walk.{Numbers, read_head}
-use Rattle.documents.specs.State.{start}
 use Rattle.documents.specs.Layout.{ticket}
 use Rattle.reader.specs.Answer.{packed, reply, Tells, kept}
 use Rattle.documents.proofs.WalkLaws.{Good, Accepted, accepts_form}

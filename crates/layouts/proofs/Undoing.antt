@@ -38,7 +38,7 @@ use Rattle.layouts.specs.declared.reading.Step.TheVariants.{More}
 use Rattle.layouts.specs.Text.{separator, longest, entry_bytes, growers_in, pilots_in, ends_line, entry_at, text_to, text_of, document_text}
 use Rattle.layouts.specs.Squeezed.{most_text, squeezed}
 use Rattle.layouts.specs.Reading.{starts_with, NumberIs, step_of, digits_read, entry_read, Whole, further, entries_from, entries_in}
-use Rattle.layouts.specs.Reading.{most_numbers, Document, DocumentIs, worded, document_in}
+use Rattle.layouts.specs.Reading.{most_numbers, DocumentIs, worded, document_in}
 use Rattle.layouts.proofs.WalkLaws.{entries_more, entries_none}
 use Rattle.layouts.proofs.AnswerLaws.{by_ticket, by_settlement}
 use Rattle.layouts.proofs.Tidy.{tight_at, tight_to, squeezed_text}

@@ -63,7 +63,7 @@ module _ {t t' : Ticket} {x x' : Settlement} (ticket : SameTicket t t') (settlem
   )
   same_welcome Free i j hi hj w = omega (arith, ticket.joint_gain i j hi hj, ticket.grower_standby i hi, ticket.pilot_standby j hj)
 
-  same_spare_grower : {d : Deal} {w : ℕ} (i j : ℕ) → i < t.growers → j < t.pilots → SpareOfGrower t x d i j w →
+  same_spare_grower : {d : Deal} (i j : ℕ) {w : ℕ} → i < t.growers → j < t.pilots → SpareOfGrower t x d i j w →
       SpareOfGrower t' x' d i j w
   same_spare_grower i j hi hj (free_hour h) =
       rw (← (ticket.grower_standby i hi)) (free_hour (omega (arith, same-grower i hi, ticket.grower_hours i hi)))
@@ -71,7 +71,7 @@ module _ {t t' : Ticket} {x x' : Settlement} (ticket : SameTicket t t') (settlem
       rw (← (same_earned_grower e i l hi hl))
       (other_deal e l (omega (arith, ticket.pilots)) ne (omega (arith, settlement.hours e i l hi hl)))
 
-  same_spare_pilot : {d : Deal} {w : ℕ} (i j : ℕ) → i < t.growers → j < t.pilots → SpareOfPilot t x d i j w →
+  same_spare_pilot : {d : Deal} (i j : ℕ) {w : ℕ} → i < t.growers → j < t.pilots → SpareOfPilot t x d i j w →
       SpareOfPilot t' x' d i j w
   same_spare_pilot i j hi hj (free_hour h) =
       rw (← (ticket.pilot_standby j hj)) (free_hour (omega (arith, same-pilot j hj, ticket.pilot_hours j hj)))

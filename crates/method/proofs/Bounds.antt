@@ -31,7 +31,7 @@ pair_small terms vs p = let fields = p.1.1 in record {
   joint_gain = fields.1.1.1.1.0.1;
 }
 
-row_small : (r : List Terms) (us : List Val) → shadow (each Terms (row the_type).own r us) → (j : ℕ) → Small (terms_in r j)
+row_small : (r : List Terms) (us : List Val) → shadow (each Terms (row the_type).own_val r us) → (j : ℕ) → Small (terms_in r j)
 row_small [] us s j = none_small
 row_small (x ∷ r) [] s j = absurd s
 row_small (x ∷ r) (u ∷ us) s zero = pair_small x (u ∷ []) s.0

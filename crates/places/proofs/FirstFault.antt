@@ -11,7 +11,6 @@ use borrow.Author.Tests.{ne_eqb, eqb-false, not-true}
 use lib.Dec.{eqb}
 use lib.ListN.{length, take, drop, take-append-drop}
 use lib.Seq.{take-length}
-use Rattle.grid.specs.First.{first}
 use Rattle.grid.proofs.Cases.{never, lt_or_le, eq_or_ne}
 use Rattle.grid.proofs.FirstPlaces.{first-first}
 use Rattle.checks.specs.declared.refusals.Document.{Document}

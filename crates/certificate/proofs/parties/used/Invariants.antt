@@ -1,0 +1,11 @@
+-- `certificate::parties::used` meets its contract: the hours so far are summed, each below 65536.
+use Prim.Native.Nat.{◌*◌, ◌-◌, ◌≤◌}
+use mathlib.Core.Path.{◌≡◌}
+use Rattle.certificate.specs.Rows.{used_in}
+use Rattle.certificate.proofs.parties.used.Given as goal
+
+abbrev pub invariant-loop-l : goal.invariant-loop-l
+invariant-loop-l l = (l.l ≤ l.partners) × (l.total ≤ 131070 * l.l) × (l.total ≡ used_in l.tariff l.free l.l)
+
+abbrev pub decreases-loop-l : goal.decreases-loop-l
+decreases-loop-l l = l.partners - l.l

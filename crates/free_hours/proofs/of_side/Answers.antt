@@ -1,0 +1,1 @@
+-- `free_hours::of_side` meets its contract: the row is filled party by party.

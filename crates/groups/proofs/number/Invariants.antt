@@ -1,0 +1,12 @@
+-- `groups::number` meets its contract: the invariant is `Reading`: what stands at `at` is what stands k bytes later, raised by
+-- the groups so far. Assumes nothing.
+use Prim.Native.Nat.{◌-◌}
+use Rattle.groups.specs.Groups.{groups}
+use Rattle.groups.proofs.Reading.{Reading}
+use Rattle.groups.proofs.number.Given as goal
+
+abbrev pub invariant-loop-k : goal.invariant-loop-k
+invariant-loop-k l = Reading l.s l.at l.k l.value l.weight l.least
+
+abbrev pub decreases-loop-k : goal.decreases-loop-k
+decreases-loop-k l = groups - l.k

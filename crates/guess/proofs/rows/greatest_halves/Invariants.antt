@@ -1,0 +1,9 @@
+-- `guess::rows::greatest_halves` is safe and ends.
+use Rattle.std.proofs.Common.{◌-◌, ◌≤◌}
+use Rattle.guess.proofs.rows.greatest_halves.Given as goal
+
+abbrev pub invariant-loop-j : goal.invariant-loop-j
+invariant-loop-j l = l.j ≤ 8
+
+abbrev pub decreases-loop-j : goal.decreases-loop-j
+decreases-loop-j l = 8 - l.j

@@ -1,0 +1,15 @@
+-- `layouts::squeezing::squeeze` meets its contract: after k turns the bytes that are left, squeezed from here on, make the whole.
+use mathlib.Core.Path.{refl}
+use native.Mathlib.Omega.{arith}
+use Rattle.layouts.proofs.SqueezingLaws.{squeezing_turns, squeezing_ends}
+use Rattle.layouts.proofs.squeezing.squeeze.Goals as goal
+
+pub loop-k-preserved : goal.loop-k-preserved
+loop-k-preserved c = let i = c.loop-k in (
+  omega arith,
+  squeezing_turns i.invariant.1 _ (omega arith) refl c.given.ensures c.next_mode-next.ensures c.store-count.ensures,
+)
+
+pub returns : goal.returns
+returns c = let i = c.loop-k in
+    (squeezing_ends i.invariant.1 (omega arith) c.last.ensures c.store.ensures, omega (arith, i.invariant.1.few, c.store.ensures.1))

@@ -1,0 +1,20 @@
+-- `marker::judge_parties` meets its contract: growers, then pilots, then deals.
+use mathlib.Core.Path.{◌∙◌}
+use native.Mathlib.Omega.{arith}
+use Rattle.marker.specs.Tables.{ticket_from, settlement_from}
+use Rattle.marker.proofs.Views.{first-grower, first-pilot}
+use Rattle.marker.proofs.Verdicts.{grower-judged, pilot-judged, hours-judged}
+use Rattle.marker.proofs.judging.judge_parties.Goals as goal
+
+pub returns-then-grower-n : goal.returns-then-grower-n
+returns-then-grower-n c = λ o. grower-judged (ticket_from o) (settlement_from o) _ _ (c.first_over-grower.ensures ∙ first-grower o) (omega arith)
+
+pub returns-then-pilot-m : goal.returns-then-pilot-m
+returns-then-pilot-m c = λ o. pilot-judged (ticket_from o) (settlement_from o) _ _ (c.first_over-grower.ensures ∙ first-grower o)
+    c.if-grower-n.false
+    _ (c.first_over-pilot.ensures ∙ first-pilot o) c.if-pilot-m.true
+
+pub returns : goal.returns
+returns c = λ o. c.judge_deals.ensures o ∙ hours-judged (ticket_from o) (settlement_from o) _ _
+    (c.first_over-grower.ensures ∙ first-grower o) c.if-grower-n.false
+    _ (c.first_over-pilot.ensures ∙ first-pilot o) c.if-pilot-m.false

@@ -1,0 +1,21 @@
+-- `method::given::terms_square` meets its contract: the square is filled row by row.
+use Prim.Native.Nat.{◌-◌, ◌≤◌}
+use mathlib.Core.Path.{◌≡◌}
+use Rattle.grid.proofs.Sixteens.{MadeTo}
+use Rattle.method.specs.View.{no_terms}
+use Rattle.method.specs.Given.{terms_from}
+use Rattle.method.proofs.given.terms_square.Given as goal
+
+abbrev pub invariant-loop-j : goal.invariant-loop-j
+invariant-loop-j l = (l.j ≤ l.pilots) ×
+    MadeTo no_terms (λ a b terms. terms ≡ terms_from l.tariff_cap l.tariff_gain l.tariff_pay l.free_cap l.joint_gain a b) l.pilots l.i l.j l.square
+
+abbrev pub decreases-loop-j : goal.decreases-loop-j
+decreases-loop-j l = l.pilots - l.j
+
+abbrev pub invariant-loop-i : goal.invariant-loop-i
+invariant-loop-i l = (l.i ≤ l.growers) ×
+    MadeTo no_terms (λ a b terms. terms ≡ terms_from l.tariff_cap l.tariff_gain l.tariff_pay l.free_cap l.joint_gain a b) l.pilots l.i 0 l.square
+
+abbrev pub decreases-loop-i : goal.decreases-loop-i
+decreases-loop-i l = l.growers - l.i

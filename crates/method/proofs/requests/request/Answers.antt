@@ -1,0 +1,1 @@
+-- `method::requests::request` meets its contract.

@@ -1,0 +1,9 @@
+-- `open_market_search::held::same_settlement` is safe and ends.
+use Prim.Native.Nat.{◌-◌, ◌≤◌}
+use Rattle.open_market_search.proofs.held.same_settlement.Given as goal
+
+abbrev pub invariant-loop-place : goal.invariant-loop-place
+invariant-loop-place l = l.place ≤ 771
+
+abbrev pub decreases-loop-place : goal.decreases-loop-place
+decreases-loop-place l = 771 - l.place

@@ -1,0 +1,9 @@
+-- `open_market_search::held::same_ticket` is safe and ends.
+use Prim.Native.Nat.{◌-◌, ◌≤◌}
+use Rattle.open_market_search.proofs.held.same_ticket.Given as goal
+
+abbrev pub invariant-loop-place : goal.invariant-loop-place
+invariant-loop-place l = l.place ≤ 1315
+
+abbrev pub decreases-loop-place : goal.decreases-loop-place
+decreases-loop-place l = 1315 - l.place

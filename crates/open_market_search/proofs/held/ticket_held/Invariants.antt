@@ -1,0 +1,9 @@
+-- `open_market_search::held::ticket_held` is safe and ends.
+use Prim.Native.Nat.{◌-◌, ◌≤◌}
+use Rattle.open_market_search.proofs.held.ticket_held.Given as goal
+
+abbrev pub invariant-loop-place : goal.invariant-loop-place
+invariant-loop-place l = l.place ≤ 27
+
+abbrev pub decreases-loop-place : goal.decreases-loop-place
+decreases-loop-place l = 27 - l.place

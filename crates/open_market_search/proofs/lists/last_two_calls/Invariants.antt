@@ -1,0 +1,9 @@
+-- `open_market_search::lists::last_two_calls` is safe and ends.
+use Prim.Native.Nat.{◌-◌, ◌≤◌}
+use Rattle.open_market_search.proofs.lists.last_two_calls.Given as goal
+
+abbrev pub invariant-loop-k : goal.invariant-loop-k
+invariant-loop-k l = l.k ≤ l.k-end
+
+abbrev pub decreases-loop-k : goal.decreases-loop-k
+decreases-loop-k l = l.k-end - l.k

@@ -1,0 +1,11 @@
+-- `passing::hours_pass` meets its contract: whether the hours of the parties that were looked at pass. Assumes nothing.
+use mathlib.Core.Path.{◌≡◌}
+use Prim.Native.Nat.{◌-◌, ◌≤◌}
+use Rattle.passing.specs.Passes.{hours_pass}
+use Rattle.passing.proofs.hours_pass.Given as goal
+
+abbrev pub invariant-loop-k : goal.invariant-loop-k
+invariant-loop-k l = (l.k ≤ l.parties) × (l.pass ≡ hours_pass l.list l.k)
+
+abbrev pub decreases-loop-k : goal.decreases-loop-k
+decreases-loop-k l = l.parties - l.k

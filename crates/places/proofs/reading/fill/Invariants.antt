@@ -1,0 +1,11 @@
+-- `places::reading::fill` meets its contract: the invariant is `Reading`: the numbers that are left are read from here on.
+use Prim.Native.Nat.{◌-◌}
+use lib.ListN.{length}
+use Rattle.places.proofs.ReadingLaws.{Reading}
+use Rattle.places.proofs.reading.fill.Given as goal
+
+abbrev pub invariant-loop-k : goal.invariant-loop-k
+invariant-loop-k l = Reading l.s l.initial.list l.list l.here l.k
+
+abbrev pub decreases-loop-k : goal.decreases-loop-k
+decreases-loop-k l = length l.initial.list - l.k

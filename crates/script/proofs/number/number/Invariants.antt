@@ -1,0 +1,9 @@
+-- `script::number::number` is safe and ends: its loop stays within the word.
+use Prim.Native.Nat.{◌-◌, ◌≤◌}
+use Rattle.script.proofs.number.number.Given as goal
+
+abbrev pub invariant-loop-k : goal.invariant-loop-k
+invariant-loop-k l = l.k ≤ l.k-end
+
+abbrev pub decreases-loop-k : goal.decreases-loop-k
+decreases-loop-k l = l.k-end - l.k

@@ -1,0 +1,9 @@
+-- `script::words::find` meets its contract: its loop stays within the text.
+use Prim.Native.Nat.{◌-◌, ◌≤◌}
+use Rattle.script.proofs.words.find.Given as goal
+
+abbrev pub invariant-loop-k : goal.invariant-loop-k
+invariant-loop-k l = l.k ≤ l.k-end
+
+abbrev pub decreases-loop-k : goal.decreases-loop-k
+decreases-loop-k l = l.k-end - l.k

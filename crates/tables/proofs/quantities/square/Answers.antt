@@ -1,0 +1,1 @@
+-- `tables::square` meets its contract: a square of zeros is filled.

@@ -1,0 +1,18 @@
+-- `week::common` meets its contract: the hours of both are counted one after another.
+use Prim.Native.Nat.{ℕ, ◌-◌, ◌≤◌}
+use mathlib.Core.Bool.{Bool, false, ◌&&◌}
+use mathlib.Core.List.{List}
+use mathlib.Core.Path.{◌≡◌}
+use lib.ListN.{get_or}
+use Rattle.week.proofs.WeekLaws.{count_to}
+use Rattle.week.proofs.common.Given as goal
+
+-- whether an hour is marked in both
+abbrev pub both : List Bool → List Bool → ℕ → Bool
+both a b x = get_or a x false && get_or b x false
+
+abbrev pub invariant-loop-h : goal.invariant-loop-h
+invariant-loop-h l = (l.h ≤ 168) × (l.count ≡ count_to (both l.a l.b) l.h)
+
+abbrev pub decreases-loop-h : goal.decreases-loop-h
+decreases-loop-h l = 168 - l.h
