@@ -7,7 +7,7 @@
 #   make test          the gate, rt ci, and then the others
 #   make clean         takes away what make built, and leaves what rt proved
 #
-# What is proved is made by rt, the command of the Rattle kit, and is kept in target: the first
+# What is proved is made by rt, the command of the Rattle kit, and is kept in crates/*/out: the first
 # make proves all crates that the libraries rest on, and takes minutes; later ones only what changed.
 
 VERSION := $(shell cat VERSION)
@@ -31,7 +31,6 @@ endif
 
 CC ?= cc
 CFLAGS ?= -O2
-WARNINGS := -std=c11 -Wall -Wextra -pedantic
 
 SHELL := /bin/bash
 .SHELLFLAGS := -eu -o pipefail -c
@@ -40,7 +39,7 @@ SHELL := /bin/bash
 
 # All that rt proves for the libraries.
 sources := crates.txt $(sort $(shell find crates -type f -path 'crates/*/*/*' \
-	-not -path '*/must-fail/*' -not -path 'crates/*/data/*'))
+	-not -path '*/must-fail/*' -not -path 'crates/*/data/*' -not -path 'crates/*/out/*'))
 
 library := $(BUILT)/libhours_exchange.a
 shared := $(BUILT)/$(SONAME)
@@ -49,25 +48,20 @@ command := $(BUILT)/exchange
 all: $(library) $(shared) $(BUILT)/libhours_exchange.so $(command) $(BUILT)/hours_exchange.pc
 
 define announce
-@[ -d target/rlib ] || echo "make: everything is proved first; from nothing that takes some fifteen minutes on two cores, with a line for each function"
+@[ -d crates/exchange/out ] || echo "make: everything is proved first; from nothing that takes some fifteen minutes on two cores, with a line for each function"
 @mkdir -p $(BUILT)
 endef
 
 $(library): $(sources)
 	$(announce)
-	rt staticlib exchange_c
-	cp target/staticlib/libexchange_c.a $@
+	cd crates/exchange_c && rt lib
+	cp crates/exchange_c/out/libexchange_c.a $@
 
-# rt has one target folder, so the two archives are made one after the other. What rt says at the end
-# names the kit's C code that the program is linked with.
-$(BUILT)/libcommand_line.a: $(sources) | $(library)
+# The command is a Rattle program, which rt proves, builds and runs; one proves at a time.
+$(command): $(sources) | $(library)
 	$(announce)
-	rt staticlib command_line | tee $(BUILT)/command_line.said
-	cp target/staticlib/libcommand_line.a $@
-
-$(command): command/main.c $(BUILT)/libcommand_line.a
-	$(CC) $(WARNINGS) $(CPPFLAGS) $(CFLAGS) $(LDFLAGS) $^ \
-		$$(sed -n 's/.*; link \(.*\) beside it$$/\1/p' $(BUILT)/command_line.said) -o $@
+	cd crates/exchange && rt run -- --version
+	cp crates/exchange/out/exchange $@
 
 # Nothing but the functions of the header can be seen from outside.
 $(BUILT)/exports.map: Makefile
@@ -123,7 +117,6 @@ quick-test: all
 	$(PYTHON) tests/readme.py
 	tests/install.sh
 
-# The gate begins by taking away target, and with it what make built.
 test:
 	rt ci
 	$(MAKE) quick-test

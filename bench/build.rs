@@ -1,4 +1,4 @@
-//! Links the proved archive that `rt staticlib exchange_c` writes, and LEMON's network simplex where LEMON is installed.
+//! Links the proved archive that `rt lib` writes in crates/exchange_c, and LEMON's network simplex where LEMON is installed.
 
 use std::env::var;
 use std::path::{Path, PathBuf};
@@ -17,12 +17,12 @@ fn main() {
 
 fn link_archive() {
     let root = Path::new(env!("CARGO_MANIFEST_DIR")).join("..");
-    let folder = root.join("target/staticlib");
+    let folder = root.join("crates/exchange_c/out");
     let archive = folder.join("libexchange_c.a");
     println!("cargo:rerun-if-changed={}", archive.display());
     if !archive.is_file() {
-        eprintln!("target/staticlib/libexchange_c.a is missing.");
-        eprintln!("Run `rt staticlib exchange_c` first, in the repository's root.");
+        eprintln!("crates/exchange_c/out/libexchange_c.a is missing.");
+        eprintln!("Run `rt lib` in crates/exchange_c first.");
         exit(1);
     }
     println!("cargo:rustc-link-search=native={}", folder.display());

@@ -1,6 +1,6 @@
 //! Prints how long the proved exchange takes beside a plain Rust one, as tables in Markdown.
 //!
-//! Run `rt staticlib exchange_c` in the repository's root, then `cargo run --release` here. `cargo test` compares the
+//! Run `rt lib` in crates/exchange_c, then `cargo run --release` here. `cargo test` compares the
 //! answers of the two. Nothing outside this folder and the archive is needed; where LEMON is installed (`liblemon-dev` on
 //! Debian) its network simplex is timed too.
 

@@ -9,12 +9,13 @@ mod settling;
 mod writing;
 
 use answer::{judged, with_worth};
-use libc::STDIN_FILENO;
 use narrowing::narrow;
 use reading::{read, unpack};
 use script::{Case, Operation, Tally, after, as_bytes, before, counted, no_numbers};
 use settling::{account, settle, sheet};
 use writing::{numeral, pack, write};
+
+const STANDARD_INPUT: i32 = 0;
 
 // Runs a case, on each of its documents as a list and as a file. False if it is none.
 fn run(case: Case, list: &[u16], file: &[u8], other: &[u16], other_file: &[u8]) -> bool {
@@ -81,6 +82,6 @@ fn summary(length: usize, tally: Tally) {
 
 fn main() {
     let mut input = io::large_buffer();
-    let length = io::read_full(STDIN_FILENO, &mut input);
+    let length = io::read_full(STANDARD_INPUT, &mut input);
     summary(length, all(&input[..length]));
 }

@@ -5,41 +5,42 @@ use accounts::Account;
 use checks::Document;
 use commands::{Asked, FAILED, NOT_SOUND, operand, written};
 use files::Got;
-use libc::STDOUT_FILENO;
 use reader::Reply;
 
-fn print(list: [u32; 48], growers: usize, pilots: usize) -> i32 {
+fn print(rt: &HostRuntime, list: [u32; 48], growers: usize, pilots: usize) -> i32 {
     let mut page = io::large_buffer();
-    let lines = answer_texts::put_account(
-        &mut page,
-        files::to(STDOUT_FILENO),
-        list,
-        growers,
-        pilots,
-    );
+    let lines = answer_texts::put_account(&mut page, files::to_output(rt), list, growers, pilots);
     written(files::finish(&page, lines))
 }
 
 // A settlement that is refused, or is not sound.
-fn refuse(asked: Asked, why: u8, document: Document, settlement: &[u8]) -> i32 {
+fn refuse(rt: &HostRuntime, asked: Asked, why: u8, document: Document, settlement: &[u8]) -> i32 {
     if why != checks::NOT_SOUND {
-        return refuse_bytes(asked, 1, why, document, settlement);
+        return refuse_bytes(rt, asked, 1, why, document, settlement);
     }
     let mut page = io::buffer();
-    let line = printing::put_refused(&mut page, files::to(STDOUT_FILENO), why);
+    let line = printing::put_refused(&mut page, files::to_output(rt), why);
     if !files::finish(&page, line) {
         return FAILED;
     }
     let mut name = io::buffer();
-    let length = operand(asked, 1, &mut name);
-    tell_why(ascii::front(&name, length), why);
+    let length = operand(rt, asked, 1, &mut name);
+    tell_why(rt, ascii::front(&name, length), why);
     NOT_SOUND
 }
 
-fn tell(asked: Asked, growers: usize, pilots: usize, account: Account, settlement: &[u8]) -> i32 {
+fn tell(
+    rt: &HostRuntime,
+    asked: Asked,
+    growers: usize,
+    pilots: usize,
+    account: Account,
+    settlement: &[u8],
+) -> i32 {
     let reply = account.reply;
     match reply {
         Reply::Refused { why } => refuse(
+            rt,
             asked,
             why,
             Document::Settlement { growers, pilots },
@@ -47,18 +48,25 @@ fn tell(asked: Asked, growers: usize, pilots: usize, account: Account, settlemen
         ),
         Reply::Done { count: _ } => {
             let list = account.list;
-            print(list, growers, pilots)
+            print(rt, list, growers, pilots)
         }
     }
 }
 
 // The account of the settlement that is the second operand.
-fn account_for(asked: Asked, ticket: &[u8], growers: usize, pilots: usize) -> i32 {
+fn account_for(
+    rt: &HostRuntime,
+    asked: Asked,
+    ticket: &[u8],
+    growers: usize,
+    pilots: usize,
+) -> i32 {
     let mut settlement = files::settlement_bytes();
-    let got = read_operand(asked, 1, &mut settlement);
+    let got = read_operand(rt, asked, 1, &mut settlement);
     match got {
         Got::Failed => FAILED,
         Got::Bytes { count } => tell(
+            rt,
             asked,
             growers,
             pilots,
@@ -68,12 +76,13 @@ fn account_for(asked: Asked, ticket: &[u8], growers: usize, pilots: usize) -> i3
     }
 }
 
-fn account_with(asked: Asked, ticket: &[u8]) -> i32 {
+fn account_with(rt: &HostRuntime, asked: Asked, ticket: &[u8]) -> i32 {
     let mut terms = numbers::ticket_list();
     let reply = reader::unpack(ticket, &mut terms);
     match reply {
-        Reply::Refused { why } => refuse_bytes(asked, 0, why, Document::Ticket, ticket),
+        Reply::Refused { why } => refuse_bytes(rt, asked, 0, why, Document::Ticket, ticket),
         Reply::Done { count: _ } => account_for(
+            rt,
             asked,
             ticket,
             tables::growers(&terms),
@@ -82,11 +91,11 @@ fn account_with(asked: Asked, ticket: &[u8]) -> i32 {
     }
 }
 
-pub(crate) fn account(asked: Asked) -> i32 {
+pub(crate) fn account(rt: &HostRuntime, asked: Asked) -> i32 {
     let mut ticket = files::ticket_bytes();
-    let got = read_operand(asked, 0, &mut ticket);
+    let got = read_operand(rt, asked, 0, &mut ticket);
     match got {
         Got::Failed => FAILED,
-        Got::Bytes { count } => account_with(asked, ascii::front(&ticket, count)),
+        Got::Bytes { count } => account_with(rt, asked, ascii::front(&ticket, count)),
     }
 }

@@ -14,9 +14,9 @@ enum Figure {
 }
 
 // Says which word is no number.
-fn no_number(word: &[u8]) -> Figure {
+fn no_number(rt: &HostRuntime, word: &[u8]) -> Figure {
     let mut page = io::large_buffer();
-    let begun = files::message_of(&mut page, b"`");
+    let begun = files::message_of(rt, &mut page, b"`");
     let told = put(&mut page, begun, word);
     let whole = put(
         &mut page,
@@ -27,7 +27,7 @@ fn no_number(word: &[u8]) -> Figure {
     Figure::Nothing
 }
 
-fn number_in(word: &[u8]) -> Figure {
+fn number_in(rt: &HostRuntime, word: &[u8]) -> Figure {
     let mut list = [0u16; 1];
     let listed = lists::read_numbers(word, &mut list);
     if let Listed::Done { count } = listed {
@@ -35,25 +35,25 @@ fn number_in(word: &[u8]) -> Figure {
             return Figure::Number { value: list[0] };
         }
     }
-    no_number(word)
+    no_number(rt, word)
 }
 
-fn number_of(asked: Asked, place: usize) -> Figure {
+fn number_of(rt: &HostRuntime, asked: Asked, place: usize) -> Figure {
     let mut word = io::buffer();
-    let length = operand(asked, place, &mut word);
-    number_in(ascii::front(&word, length))
+    let length = operand(rt, asked, place, &mut word);
+    number_in(rt, ascii::front(&word, length))
 }
 
-fn write_ticket(asked: Asked, list: &[u16]) -> i32 {
+fn write_ticket(rt: &HostRuntime, asked: Asked, list: &[u16]) -> i32 {
     let mut ticket = files::ticket_bytes();
     let reply = reader::pack(list, &mut ticket);
     match reply {
-        Reply::Refused { why } => refuse(false, b"draw", why),
-        Reply::Done { count } => write_operand(asked, 3, ascii::front(&ticket, count)),
+        Reply::Refused { why } => refuse(rt, false, b"draw", why),
+        Reply::Done { count } => write_operand(rt, asked, 3, ascii::front(&ticket, count)),
     }
 }
 
-fn draw_ticket(asked: Asked, seed: u16, growers: u16, pilots: u16) -> i32 {
+fn draw_ticket(rt: &HostRuntime, asked: Asked, seed: u16, growers: u16, pilots: u16) -> i32 {
     let mut list = numbers::ticket_list();
     let reply = draws::draw(
         seed as u64,
@@ -62,20 +62,20 @@ fn draw_ticket(asked: Asked, seed: u16, growers: u16, pilots: u16) -> i32 {
         &mut list,
     );
     match reply {
-        Reply::Refused { why } => refuse(false, b"draw", why),
-        Reply::Done { count } => write_ticket(asked, numbers::front(&list, count)),
+        Reply::Refused { why } => refuse(rt, false, b"draw", why),
+        Reply::Done { count } => write_ticket(rt, asked, numbers::front(&list, count)),
     }
 }
 
-pub(crate) fn draw(asked: Asked) -> i32 {
-    let Figure::Number { value: seed } = number_of(asked, 0) else {
+pub(crate) fn draw(rt: &HostRuntime, asked: Asked) -> i32 {
+    let Figure::Number { value: seed } = number_of(rt, asked, 0) else {
         return FAILED;
     };
-    let Figure::Number { value: growers } = number_of(asked, 1) else {
+    let Figure::Number { value: growers } = number_of(rt, asked, 1) else {
         return FAILED;
     };
-    let Figure::Number { value: pilots } = number_of(asked, 2) else {
+    let Figure::Number { value: pilots } = number_of(rt, asked, 2) else {
         return FAILED;
     };
-    draw_ticket(asked, seed, growers, pilots)
+    draw_ticket(rt, asked, seed, growers, pilots)
 }

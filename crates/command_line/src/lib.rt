@@ -16,42 +16,41 @@ mod window_files; // window_files.rt: a ticket for everybody's windows
 
 use commands::{Asked, Command, FAILED, asked_for, command_of, fits};
 
-fn run_command(command: Command, asked: Asked) -> i32 {
+fn run_command(rt: &HostRuntime, command: Command, asked: Asked) -> i32 {
     match command {
-        Command::Sheet => sheet::sheet(asked),
-        Command::Settle => sheet::settle(asked),
-        Command::Mark => marking::mark(asked),
-        Command::Account => account::account(asked),
-        Command::Unpack => packing::unpack(asked),
-        Command::Pack => packing::pack(asked),
-        Command::Draw => drawing::draw(asked),
-        Command::Windows => window_files::windows(asked),
-        Command::Desk => sheet::desk(asked),
+        Command::Sheet => sheet::sheet(rt, asked),
+        Command::Settle => sheet::settle(rt, asked),
+        Command::Mark => marking::mark(rt, asked),
+        Command::Account => account::account(rt, asked),
+        Command::Unpack => packing::unpack(rt, asked),
+        Command::Pack => packing::pack(rt, asked),
+        Command::Draw => drawing::draw(rt, asked),
+        Command::Windows => window_files::windows(rt, asked),
+        Command::Desk => sheet::desk(rt, asked),
         _ => FAILED,
     }
 }
 
 // A command with its arguments.
-fn run_asked(command: Command, asked: Asked) -> i32 {
+fn run_asked(rt: &HostRuntime, command: Command, asked: Asked) -> i32 {
     if asked.help {
-        return commands::help_for(command);
+        return commands::help_for(rt, command);
     }
-    if fits(command, asked) {
-        return run_command(command, asked);
+    if fits(rt, command, asked) {
+        return run_command(rt, command, asked);
     }
     FAILED
 }
 
 // Runs the command that the program's arguments name, and answers the exit status.
-#[unsafe(no_mangle)]
-pub extern "C" fn exchange_run() -> i32 {
+pub fn exchange_run(rt: &HostRuntime) -> i32 {
     let mut word = io::buffer();
-    let length = os::arg(1, &mut word);
+    let length = commands::argument(rt, 1, &mut word);
     let command = command_of(&word[..length]);
     match command {
-        Command::Unknown => commands::no_command(&word[..length]),
-        Command::Help => commands::help(),
-        Command::Version => commands::version(),
-        _ => run_asked(command, asked_for(command)),
+        Command::Unknown => commands::no_command(rt, &word[..length]),
+        Command::Help => commands::help(rt),
+        Command::Version => commands::version(rt),
+        _ => run_asked(rt, command, asked_for(rt, command)),
     }
 }

@@ -5,7 +5,6 @@ use crate::sheet::put_sheet;
 use checks::Document;
 use commands::{Asked, DONE, FAILED, of_verdict, operand, worse};
 use files::{Got, Stream, fill_in, put};
-use libc::STDOUT_FILENO;
 use market::Deal;
 use reader::Reply;
 use verdicts::Verdict;
@@ -131,6 +130,7 @@ fn put_object(
 
 // What is said of a settlement that was read.
 fn put_judged(
+    rt: &HostRuntime,
     page: &mut [u8],
     asked: Asked,
     name: &[u8],
@@ -140,7 +140,7 @@ fn put_judged(
     agreed: &[u16],
     verdict: Verdict,
 ) -> Stream {
-    let stream = files::to(STDOUT_FILENO);
+    let stream = files::to_output(rt);
     if asked.json {
         return put_object(page, stream, asked, name, terms, agreed, verdict);
     }
@@ -149,8 +149,8 @@ fn put_judged(
     put_meaning(page, line, asked, name, terms, agreed, verdict)
 }
 
-fn put_refused(page: &mut [u8], asked: Asked, name: &[u8], why: u8) -> Stream {
-    let stream = files::to(STDOUT_FILENO);
+fn put_refused(rt: &HostRuntime, page: &mut [u8], asked: Asked, name: &[u8], why: u8) -> Stream {
+    let stream = files::to_output(rt);
     if asked.json {
         let verdict = Verdict::Refused { why };
         return answer_texts::put_marked(
@@ -167,17 +167,25 @@ fn put_refused(page: &mut [u8], asked: Asked, name: &[u8], why: u8) -> Stream {
 }
 
 // Says which settlement is refused.
-fn refuse(asked: Asked, name: &[u8], why: u8, document: Document, settlement: &[u8]) -> i32 {
+fn refuse(
+    rt: &HostRuntime,
+    asked: Asked,
+    name: &[u8],
+    why: u8,
+    document: Document,
+    settlement: &[u8],
+) -> i32 {
     let mut page = io::large_buffer();
-    let told = put_refused(&mut page, asked, name, why);
+    let told = put_refused(rt, &mut page, asked, name, why);
     if !files::finish(&page, told) {
         return STOPPED;
     }
-    tell_of_bytes(name, why, document, settlement);
+    tell_of_bytes(rt, name, why, document, settlement);
     FAILED
 }
 
 fn judge(
+    rt: &HostRuntime,
     asked: Asked,
     name: &[u8],
     ticket: &[u8],
@@ -188,7 +196,7 @@ fn judge(
     let verdict = marker::mark(ticket, settlement);
     let mut page = io::large_buffer();
     let told = put_judged(
-        &mut page, asked, name, ticket, terms, settlement, agreed, verdict,
+        rt, &mut page, asked, name, ticket, terms, settlement, agreed, verdict,
     );
     if files::finish(&page, told) {
         return of_verdict(verdicts::values_of(verdict));
@@ -197,13 +205,21 @@ fn judge(
 }
 
 // Marks a settlement's bytes.
-fn mark_bytes(asked: Asked, name: &[u8], ticket: &[u8], terms: &[u16], settlement: &[u8]) -> i32 {
+fn mark_bytes(
+    rt: &HostRuntime,
+    asked: Asked,
+    name: &[u8],
+    ticket: &[u8],
+    terms: &[u16],
+    settlement: &[u8],
+) -> i32 {
     let growers = tables::growers(terms);
     let pilots = tables::pilots(terms);
     let mut agreed = numbers::settlement_list();
     let reply = reader::read_settlement(settlement, growers, pilots, &mut agreed);
     match reply {
         Reply::Refused { why } => refuse(
+            rt,
             asked,
             name,
             why,
@@ -211,6 +227,7 @@ fn mark_bytes(asked: Asked, name: &[u8], ticket: &[u8], terms: &[u16], settlemen
             settlement,
         ),
         Reply::Done { count } => judge(
+            rt,
             asked,
             name,
             ticket,
@@ -222,14 +239,15 @@ fn mark_bytes(asked: Asked, name: &[u8], ticket: &[u8], terms: &[u16], settlemen
 }
 
 // Marks the settlement that an operand names.
-fn mark_operand(asked: Asked, place: usize, ticket: &[u8], terms: &[u16]) -> i32 {
+fn mark_operand(rt: &HostRuntime, asked: Asked, place: usize, ticket: &[u8], terms: &[u16]) -> i32 {
     let mut name = io::buffer();
-    let length = operand(asked, place, &mut name);
+    let length = operand(rt, asked, place, &mut name);
     let mut settlement = files::settlement_bytes();
-    let got = files::read(ascii::front(&name, length), &mut settlement);
+    let got = files::read(rt, ascii::front(&name, length), &mut settlement);
     match got {
         Got::Failed => FAILED,
         Got::Bytes { count } => mark_bytes(
+            rt,
             asked,
             ascii::front(&name, length),
             ticket,
@@ -239,12 +257,12 @@ fn mark_operand(asked: Asked, place: usize, ticket: &[u8], terms: &[u16]) -> i32
     }
 }
 
-fn mark_operands(asked: Asked, ticket: &[u8], terms: &[u16]) -> i32 {
+fn mark_operands(rt: &HostRuntime, asked: Asked, ticket: &[u8], terms: &[u16]) -> i32 {
     let count = asked.operands;
     let mut status = DONE;
     for k in 1..count {
         if status < STOPPED {
-            status = worse(status, mark_operand(asked, k, ticket, terms));
+            status = worse(status, mark_operand(rt, asked, k, ticket, terms));
         }
     }
     status
@@ -258,8 +276,8 @@ fn shows_model(asked: Asked, status: i32) -> bool {
     asked.model || (asked.operands == 2 && !asked.json && status < FAILED)
 }
 
-fn mark_ticket(asked: Asked, ticket: &[u8], terms: &[u16]) -> i32 {
-    let status = mark_operands(asked, ticket, terms);
+fn mark_ticket(rt: &HostRuntime, asked: Asked, ticket: &[u8], terms: &[u16]) -> i32 {
+    let status = mark_operands(rt, asked, ticket, terms);
     if status == STOPPED {
         return FAILED;
     }
@@ -267,13 +285,7 @@ fn mark_ticket(asked: Asked, ticket: &[u8], terms: &[u16]) -> i32 {
         return status;
     }
     let mut page = io::large_buffer();
-    let model = put_sheet(
-        &mut page,
-        files::to(STDOUT_FILENO),
-        asked.json,
-        ticket,
-        terms,
-    );
+    let model = put_sheet(&mut page, files::to_output(rt), asked.json, ticket, terms);
     if files::finish(&page, model) {
         return status;
     }
@@ -281,20 +293,20 @@ fn mark_ticket(asked: Asked, ticket: &[u8], terms: &[u16]) -> i32 {
 }
 
 // The settlements are marked only if the ticket is one.
-fn mark_with(asked: Asked, ticket: &[u8]) -> i32 {
+fn mark_with(rt: &HostRuntime, asked: Asked, ticket: &[u8]) -> i32 {
     let mut terms = numbers::ticket_list();
     let reply = reader::unpack(ticket, &mut terms);
     match reply {
-        Reply::Refused { why } => refuse_bytes(asked, 0, why, Document::Ticket, ticket),
-        Reply::Done { count } => mark_ticket(asked, ticket, numbers::front(&terms, count)),
+        Reply::Refused { why } => refuse_bytes(rt, asked, 0, why, Document::Ticket, ticket),
+        Reply::Done { count } => mark_ticket(rt, asked, ticket, numbers::front(&terms, count)),
     }
 }
 
-pub(crate) fn mark(asked: Asked) -> i32 {
+pub(crate) fn mark(rt: &HostRuntime, asked: Asked) -> i32 {
     let mut ticket = files::ticket_bytes();
-    let got = read_operand(asked, 0, &mut ticket);
+    let got = read_operand(rt, asked, 0, &mut ticket);
     match got {
         Got::Failed => FAILED,
-        Got::Bytes { count } => mark_with(asked, ascii::front(&ticket, count)),
+        Got::Bytes { count } => mark_with(rt, asked, ascii::front(&ticket, count)),
     }
 }

@@ -5,7 +5,6 @@ use checks::Document;
 use commands::{Asked, FAILED, operand, written};
 use files::{Got, Stream, complain_of, fill_in};
 use layouts::{Layout, TextRead};
-use libc::STDOUT_FILENO;
 use numbers::{entry, index};
 use reader::Reply;
 
@@ -83,45 +82,51 @@ fn put_document(page: &mut [u8], stream: Stream, asked: Asked, list: &[u16]) -> 
     printing::put_document(page, stream, layout_of(list), list)
 }
 
-fn print(asked: Asked, list: &[u16]) -> i32 {
+fn print(rt: &HostRuntime, asked: Asked, list: &[u16]) -> i32 {
     let mut page = io::large_buffer();
-    let text = put_document(&mut page, files::to(STDOUT_FILENO), asked, list);
+    let text = put_document(&mut page, files::to_output(rt), asked, list);
     written(files::finish(&page, text))
 }
 
-fn unpack_file(asked: Asked, file: &[u8]) -> i32 {
+fn unpack_file(rt: &HostRuntime, asked: Asked, file: &[u8]) -> i32 {
     let document = document_of(file);
     let mut list = numbers::ticket_list();
     let reply = read_document(document, file, &mut list);
     match reply {
-        Reply::Refused { why } => refuse_bytes(asked, 0, why, document, file),
-        Reply::Done { count } => print(asked, numbers::front(&list, count)),
+        Reply::Refused { why } => refuse_bytes(rt, asked, 0, why, document, file),
+        Reply::Done { count } => print(rt, asked, numbers::front(&list, count)),
     }
 }
 
-pub(crate) fn unpack(asked: Asked) -> i32 {
+pub(crate) fn unpack(rt: &HostRuntime, asked: Asked) -> i32 {
     let mut file = files::ticket_bytes();
-    let got = read_operand(asked, 0, &mut file);
+    let got = read_operand(rt, asked, 0, &mut file);
     match got {
         Got::Failed => FAILED,
-        Got::Bytes { count } => unpack_file(asked, ascii::front(&file, count)),
+        Got::Bytes { count } => unpack_file(rt, asked, ascii::front(&file, count)),
     }
 }
 
 // What is wrong with the text that is an operand.
-pub(crate) fn refuse_operand(asked: Asked, place: usize, words: &[u8]) -> i32 {
+pub(crate) fn refuse_operand(rt: &HostRuntime, asked: Asked, place: usize, words: &[u8]) -> i32 {
     let mut name = io::buffer();
-    let length = operand(asked, place, &mut name);
-    complain_of(ascii::front(&name, length), words);
+    let length = operand(rt, asked, place, &mut name);
+    complain_of(rt, ascii::front(&name, length), words);
     FAILED
 }
 
 // The same of a line of it.
-pub(crate) fn refuse_line(asked: Asked, place: usize, line: usize, words: &[u8]) -> i32 {
+pub(crate) fn refuse_line(
+    rt: &HostRuntime,
+    asked: Asked,
+    place: usize,
+    line: usize,
+    words: &[u8],
+) -> i32 {
     let mut name = io::buffer();
-    let length = operand(asked, place, &mut name);
+    let length = operand(rt, asked, place, &mut name);
     let mut page = io::large_buffer();
-    let begun = files::message_of(&mut page, ascii::front(&name, length));
+    let begun = files::message_of(rt, &mut page, ascii::front(&name, length));
     let at = fill_in(&mut page, begun, b": line %: ", &[line as u64]);
     let told = files::put(&mut page, at, words);
     let whole = files::put(&mut page, told, b"\n");
@@ -137,24 +142,25 @@ fn document_in(layout: Layout, list: &[u16]) -> Document {
 }
 
 // A list of numbers as a document, to the file that is the second operand.
-fn pack_list(asked: Asked, layout: Layout, list: &[u16], text: &[u8]) -> i32 {
+fn pack_list(rt: &HostRuntime, asked: Asked, layout: Layout, list: &[u16], text: &[u8]) -> i32 {
     let document = document_in(layout, list);
     let mut file = files::ticket_bytes();
     let reply = write_document(document, list, &mut file);
     match reply {
-        Reply::Refused { why } => refuse_text(asked, why, document, list, text),
-        Reply::Done { count } => write_operand(asked, 1, ascii::front(&file, count)),
+        Reply::Refused { why } => refuse_text(rt, asked, why, document, list, text),
+        Reply::Done { count } => write_operand(rt, asked, 1, ascii::front(&file, count)),
     }
 }
 
-fn pack_text(asked: Asked, text: &[u8]) -> i32 {
+fn pack_text(rt: &HostRuntime, asked: Asked, text: &[u8]) -> i32 {
     let mut list = listed_numbers();
     let got = layouts::read(text, &mut list);
     match got {
-        TextRead::Wrong { line } => refuse_line(asked, 0, line, b"not as unpack prints it"),
-        TextRead::TooLong => refuse_operand(asked, 0, b"more than 65535 bytes"),
-        TextRead::NoRoom => refuse_operand(asked, 0, b"more than 32768 numbers"),
+        TextRead::Wrong { line } => refuse_line(rt, asked, 0, line, b"not as unpack prints it"),
+        TextRead::TooLong => refuse_operand(rt, asked, 0, b"more than 65535 bytes"),
+        TextRead::NoRoom => refuse_operand(rt, asked, 0, b"more than 32768 numbers"),
         TextRead::Done { layout, count } => pack_list(
+            rt,
             asked,
             layout,
             numbers::front(&list, count),
@@ -163,14 +169,14 @@ fn pack_text(asked: Asked, text: &[u8]) -> i32 {
     }
 }
 
-pub(crate) fn pack(asked: Asked) -> i32 {
+pub(crate) fn pack(rt: &HostRuntime, asked: Asked) -> i32 {
     let mut text = io::large_buffer();
-    let got = read_operand(asked, 0, &mut text);
+    let got = read_operand(rt, asked, 0, &mut text);
     let Got::Bytes { count } = got else {
         return FAILED;
     };
     if count < 65536 {
-        return pack_text(asked, ascii::front(&text, count));
+        return pack_text(rt, asked, ascii::front(&text, count));
     }
-    refuse_operand(asked, 0, b"more than 65535 bytes")
+    refuse_operand(rt, asked, 0, b"more than 65535 bytes")
 }

@@ -5,24 +5,23 @@ use checks::{Document, refusals_of};
 use commands::{Asked, FAILED, operand};
 use files::{Stream, fill_in, message_of, put};
 use layouts::Layout;
-use libc::STDOUT_FILENO;
 
 // The answer to what is refused.
-fn answer(json: bool, why: u8) {
+fn answer(rt: &HostRuntime, json: bool, why: u8) {
     let mut page = io::buffer();
     if json {
-        let object = put_refusal_object(&mut page, files::to(STDOUT_FILENO), why);
+        let object = put_refusal_object(&mut page, files::to_output(rt), why);
         files::flush(&page, object);
         return;
     }
-    let line = printing::put_refused(&mut page, files::to(STDOUT_FILENO), why);
+    let line = printing::put_refused(&mut page, files::to_output(rt), why);
     files::flush(&page, line);
 }
 
 // Why a file is refused.
-pub(crate) fn tell_why(name: &[u8], why: u8) {
+pub(crate) fn tell_why(rt: &HostRuntime, name: &[u8], why: u8) {
     let mut page = io::large_buffer();
-    let begun = message_of(&mut page, name);
+    let begun = message_of(rt, &mut page, name);
     let named = put(&mut page, begun, b": ");
     let told = words::put_refusal(&mut page, named, why);
     let whole = put(&mut page, told, b"\n");
@@ -59,6 +58,7 @@ fn put_what(
 
 // Where a file is refused: at which number, and what stands there.
 fn put_place(
+    rt: &HostRuntime,
     page: &mut [u8],
     name: &[u8],
     document: Document,
@@ -67,7 +67,7 @@ fn put_place(
     pilots: u16,
     place: usize,
 ) -> Stream {
-    let begun = message_of(page, name);
+    let begun = message_of(rt, page, name);
     let at = fill_in(page, begun, b": at number %", &[place as u64]);
     put_what(page, at, document, why, growers, pilots, place)
 }
@@ -95,12 +95,13 @@ fn layout_of(document: Document) -> Layout {
 }
 
 // Where the bytes of a document are refused. Once its third number has passed, growers and pilots are its second byte and its third.
-fn tell_byte(name: &[u8], why: u8, document: Document, file: &[u8]) {
+fn tell_byte(rt: &HostRuntime, name: &[u8], why: u8, document: Document, file: &[u8]) {
     let found = places::of_bytes(document, file);
     let mut page = io::large_buffer();
     let growers = byte_at(file, 1);
     let pilots = byte_at(file, 2);
     let at = put_place(
+        rt,
         &mut page,
         name,
         document,
@@ -114,13 +115,20 @@ fn tell_byte(name: &[u8], why: u8, document: Document, file: &[u8]) {
 }
 
 // Why a document's bytes are refused, and where.
-pub(crate) fn tell_of_bytes(name: &[u8], why: u8, document: Document, file: &[u8]) {
-    tell_why(name, why);
-    tell_byte(name, why, document, file);
+pub(crate) fn tell_of_bytes(
+    rt: &HostRuntime,
+    name: &[u8],
+    why: u8,
+    document: Document,
+    file: &[u8],
+) {
+    tell_why(rt, name, why);
+    tell_byte(rt, name, why, document, file);
 }
 
 // A refused file that an operand names.
 pub(crate) fn refuse_bytes(
+    rt: &HostRuntime,
     asked: Asked,
     place: usize,
     why: u8,
@@ -128,19 +136,26 @@ pub(crate) fn refuse_bytes(
     file: &[u8],
 ) -> i32 {
     let mut name = io::buffer();
-    let length = operand(asked, place, &mut name);
-    answer(asked.json, why);
-    tell_of_bytes(ascii::front(&name, length), why, document, file);
+    let length = operand(rt, asked, place, &mut name);
+    answer(rt, asked.json, why);
+    tell_of_bytes(rt, ascii::front(&name, length), why, document, file);
     FAILED
 }
 
 // Where a text is refused as a document.
-fn tell_line(name: &[u8], why: u8, document: Document, list: &[u16], text: &[u8]) {
+fn tell_line(
+    rt: &HostRuntime,
+    name: &[u8],
+    why: u8,
+    document: Document,
+    list: &[u16],
+    text: &[u8],
+) {
     let place = places::of_list(document, list);
     let growers = numbers::entry(list, 1);
     let pilots = numbers::entry(list, 2);
     let mut page = io::large_buffer();
-    let at = put_place(&mut page, name, document, why, growers, pilots, place);
+    let at = put_place(rt, &mut page, name, document, why, growers, pilots, place);
     let line = line_in_document(text, layout_of(document), growers, pilots, place);
     let whole = fill_in(&mut page, at, b", line %\n", &[line as u64]);
     files::flush(&page, whole);
@@ -148,6 +163,7 @@ fn tell_line(name: &[u8], why: u8, document: Document, list: &[u16], text: &[u8]
 
 // A refused text of a document, of which a list was made.
 pub(crate) fn refuse_text(
+    rt: &HostRuntime,
     asked: Asked,
     why: u8,
     document: Document,
@@ -155,16 +171,16 @@ pub(crate) fn refuse_text(
     text: &[u8],
 ) -> i32 {
     let mut name = io::buffer();
-    let length = operand(asked, 0, &mut name);
-    answer(asked.json, why);
-    tell_why(ascii::front(&name, length), why);
-    tell_line(ascii::front(&name, length), why, document, list, text);
+    let length = operand(rt, asked, 0, &mut name);
+    answer(rt, asked.json, why);
+    tell_why(rt, ascii::front(&name, length), why);
+    tell_line(rt, ascii::front(&name, length), why, document, list, text);
     FAILED
 }
 
 // What is refused without a place of its own.
-pub(crate) fn refuse(json: bool, name: &[u8], why: u8) -> i32 {
-    answer(json, why);
-    tell_why(name, why);
+pub(crate) fn refuse(rt: &HostRuntime, json: bool, name: &[u8], why: u8) -> i32 {
+    answer(rt, json, why);
+    tell_why(rt, name, why);
     FAILED
 }

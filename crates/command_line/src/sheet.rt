@@ -6,7 +6,6 @@ use checks::Document;
 use commands::{Asked, DONE, FAILED, written};
 use desk::Served;
 use files::{Got, Stream};
-use libc::STDOUT_FILENO;
 use reader::Reply;
 
 fn put_object_of(
@@ -64,71 +63,65 @@ pub(crate) fn put_sheet(
     printing::put_sheet(page, stream, ticket)
 }
 
-fn print(asked: Asked, ticket: &[u8], terms: &[u16]) -> i32 {
+fn print(rt: &HostRuntime, asked: Asked, ticket: &[u8], terms: &[u16]) -> i32 {
     if asked.table && !asked.json {
-        return print_table(asked, ticket, terms);
+        return print_table(rt, asked, ticket, terms);
     }
     let mut page = io::large_buffer();
-    let sheet = put_sheet(
-        &mut page,
-        files::to(STDOUT_FILENO),
-        asked.json,
-        ticket,
-        terms,
-    );
+    let sheet = put_sheet(&mut page, files::to_output(rt), asked.json, ticket, terms);
     written(files::finish(&page, sheet))
 }
 
-fn sheet_of(asked: Asked, ticket: &[u8]) -> i32 {
+fn sheet_of(rt: &HostRuntime, asked: Asked, ticket: &[u8]) -> i32 {
     let mut terms = numbers::ticket_list();
     let reply = reader::unpack(ticket, &mut terms);
     match reply {
-        Reply::Refused { why } => refuse_bytes(asked, 0, why, Document::Ticket, ticket),
-        Reply::Done { count } => print(asked, ticket, numbers::front(&terms, count)),
+        Reply::Refused { why } => refuse_bytes(rt, asked, 0, why, Document::Ticket, ticket),
+        Reply::Done { count } => print(rt, asked, ticket, numbers::front(&terms, count)),
     }
 }
 
-pub(crate) fn sheet(asked: Asked) -> i32 {
+pub(crate) fn sheet(rt: &HostRuntime, asked: Asked) -> i32 {
     let mut ticket = files::ticket_bytes();
-    let got = read_operand(asked, 0, &mut ticket);
+    let got = read_operand(rt, asked, 0, &mut ticket);
     match got {
         Got::Failed => FAILED,
-        Got::Bytes { count } => sheet_of(asked, ascii::front(&ticket, count)),
+        Got::Bytes { count } => sheet_of(rt, asked, ascii::front(&ticket, count)),
     }
 }
 
-fn settle_ticket(asked: Asked, ticket: &[u8]) -> i32 {
+fn settle_ticket(rt: &HostRuntime, asked: Asked, ticket: &[u8]) -> i32 {
     let mut settlement = files::settlement_bytes();
     let reply = settler::settle(ticket, &mut settlement);
     match reply {
-        Reply::Refused { why } => refuse_bytes(asked, 0, why, Document::Ticket, ticket),
-        Reply::Done { count } => write_operand(asked, 1, ascii::front(&settlement, count)),
+        Reply::Refused { why } => refuse_bytes(rt, asked, 0, why, Document::Ticket, ticket),
+        Reply::Done { count } => write_operand(rt, asked, 1, ascii::front(&settlement, count)),
     }
 }
 
-pub(crate) fn settle(asked: Asked) -> i32 {
+pub(crate) fn settle(rt: &HostRuntime, asked: Asked) -> i32 {
     let mut ticket = files::ticket_bytes();
-    let got = read_operand(asked, 0, &mut ticket);
+    let got = read_operand(rt, asked, 0, &mut ticket);
     match got {
         Got::Failed => FAILED,
-        Got::Bytes { count } => settle_ticket(asked, ascii::front(&ticket, count)),
+        Got::Bytes { count } => settle_ticket(rt, asked, ascii::front(&ticket, count)),
     }
 }
 
-fn serve(asked: Asked, ticket: &[u8]) -> i32 {
-    let served = desk::serve(ticket);
+fn serve(rt: &HostRuntime, asked: Asked, ticket: &[u8]) -> i32 {
+    let served = desk::serve(rt, ticket);
     match served {
-        Served::Refused { why } => refuse_bytes(asked, 0, why, Document::Ticket, ticket),
+        Served::Refused { why } => refuse_bytes(rt, asked, 0, why, Document::Ticket, ticket),
         Served::Failed => FAILED,
         Served::Done => DONE,
     }
 }
 
-pub(crate) fn desk(asked: Asked) -> i32 {
+pub(crate) fn desk(rt: &HostRuntime, asked: Asked) -> i32 {
     let mut ticket = files::ticket_bytes();
-    let got = read_operand(asked, 0, &mut ticket);
+    let got = read_operand(rt, asked, 0, &mut ticket);
     match got {
         Got::Failed => FAILED,
-        Got::Bytes { count } => serve(asked, ascii::front(&ticket, count)),
+        Got::Bytes { count } => serve(rt, asked, ascii::front(&ticket, count)),
     }
 }

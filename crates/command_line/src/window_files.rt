@@ -143,11 +143,18 @@ fn put_party(page: &mut [u8], stream: Stream, spot: Spot, growers: usize) -> Str
 }
 
 // Where the windows of so many growers and pilots are refused.
-fn tell_place(name: &[u8], text: &[u8], list: &[u16], growers: usize, parties: usize) {
+fn tell_place(
+    rt: &HostRuntime,
+    name: &[u8],
+    text: &[u8],
+    list: &[u16],
+    growers: usize,
+    parties: usize,
+) {
     let spot = first_fault(list, parties);
     let place = spot.place;
     let mut page = io::large_buffer();
-    let begun = files::message_of(&mut page, name);
+    let begun = files::message_of(rt, &mut page, name);
     let number = fill_in(&mut page, begun, b": at number %", &[place as u64]);
     let party = put_party(&mut page, number, spot, growers);
     let line = line_of(text, place);
@@ -156,63 +163,77 @@ fn tell_place(name: &[u8], text: &[u8], list: &[u16], growers: usize, parties: u
 }
 
 // Windows that are refused.
-fn refuse_windows(asked: Asked, why: u8, ticket: &[u8], text: &[u8], list: &[u16]) -> i32 {
+fn refuse_windows(
+    rt: &HostRuntime,
+    asked: Asked,
+    why: u8,
+    ticket: &[u8],
+    text: &[u8],
+    list: &[u16],
+) -> i32 {
     let mut name = io::buffer();
-    let length = operand(asked, 1, &mut name);
-    refuse(false, ascii::front(&name, length), why);
+    let length = operand(rt, asked, 1, &mut name);
+    refuse(rt, false, ascii::front(&name, length), why);
     let mut terms = numbers::ticket_list();
     let reply = reader::unpack(ticket, &mut terms);
     if let Reply::Done { count } = reply {
         let passed = numbers::front(&terms, count);
         let growers = tables::growers(passed);
         let parties = growers + tables::pilots(passed);
-        tell_place(ascii::front(&name, length), text, list, growers, parties);
+        tell_place(
+            rt,
+            ascii::front(&name, length),
+            text,
+            list,
+            growers,
+            parties,
+        );
     }
     FAILED
 }
 
 // The ticket that a list of windows makes of a ticket, to the file that is the third operand.
-fn narrow(asked: Asked, ticket: &[u8], text: &[u8], list: &[u16]) -> i32 {
+fn narrow(rt: &HostRuntime, asked: Asked, ticket: &[u8], text: &[u8], list: &[u16]) -> i32 {
     let mut new_ticket = files::ticket_bytes();
     let reply = windows::narrow(ticket, list, &mut new_ticket);
     match reply {
         Reply::Refused { why } => {
             if words::is_of_ticket(why) {
-                return refuse_bytes(asked, 0, why, Document::Ticket, ticket);
+                return refuse_bytes(rt, asked, 0, why, Document::Ticket, ticket);
             }
-            refuse_windows(asked, why, ticket, text, list)
+            refuse_windows(rt, asked, why, ticket, text, list)
         }
-        Reply::Done { count } => write_operand(asked, 2, ascii::front(&new_ticket, count)),
+        Reply::Done { count } => write_operand(rt, asked, 2, ascii::front(&new_ticket, count)),
     }
 }
 
-fn with_text(asked: Asked, ticket: &[u8], text: &[u8]) -> i32 {
+fn with_text(rt: &HostRuntime, asked: Asked, ticket: &[u8], text: &[u8]) -> i32 {
     let mut list = listed_numbers();
     let listed = lists::read_numbers(text, &mut list);
     match listed {
-        Listed::Wrong { line } => refuse_line(asked, 1, line, b"not a number up to 65535"),
-        Listed::NoRoom => refuse_operand(asked, 1, b"more than 32768 numbers"),
-        Listed::Done { count } => narrow(asked, ticket, text, numbers::front(&list, count)),
+        Listed::Wrong { line } => refuse_line(rt, asked, 1, line, b"not a number up to 65535"),
+        Listed::NoRoom => refuse_operand(rt, asked, 1, b"more than 32768 numbers"),
+        Listed::Done { count } => narrow(rt, asked, ticket, text, numbers::front(&list, count)),
     }
 }
 
-fn with_ticket(asked: Asked, ticket: &[u8]) -> i32 {
+fn with_ticket(rt: &HostRuntime, asked: Asked, ticket: &[u8]) -> i32 {
     let mut text = io::large_buffer();
-    let got = read_operand(asked, 1, &mut text);
+    let got = read_operand(rt, asked, 1, &mut text);
     let Got::Bytes { count } = got else {
         return FAILED;
     };
     if count < 65536 {
-        return with_text(asked, ticket, ascii::front(&text, count));
+        return with_text(rt, asked, ticket, ascii::front(&text, count));
     }
-    refuse_operand(asked, 1, b"more than 65535 bytes")
+    refuse_operand(rt, asked, 1, b"more than 65535 bytes")
 }
 
-pub(crate) fn windows(asked: Asked) -> i32 {
+pub(crate) fn windows(rt: &HostRuntime, asked: Asked) -> i32 {
     let mut ticket = files::ticket_bytes();
-    let got = read_operand(asked, 0, &mut ticket);
+    let got = read_operand(rt, asked, 0, &mut ticket);
     match got {
         Got::Failed => FAILED,
-        Got::Bytes { count } => with_ticket(asked, ascii::front(&ticket, count)),
+        Got::Bytes { count } => with_ticket(rt, asked, ascii::front(&ticket, count)),
     }
 }

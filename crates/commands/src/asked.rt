@@ -1,4 +1,7 @@
 // Commands, options and operands: the arguments that are no options. A command's own word is argument 1.
+ghost use Rattle.std.specs.Prelude.{◌≤◌, length};
+
+use crate::arguments::{Given, argument, given_at, is_missing};
 use files::complain;
 
 #[derive(Clone, Copy)]
@@ -250,33 +253,42 @@ fn with_word(asked: Asked, word: &[u8], argument: usize) -> Asked {
     with_option(asked, word, argument)
 }
 
-fn with_argument(asked: Asked, argument: usize) -> Asked {
-    let mut word = io::buffer();
-    let length = os::arg(argument, &mut word);
+fn with_given(asked: Asked, given: Given, word: &[u8], argument: usize) -> Asked {
     let mut before = asked;
-    if os::errno() != 0 {
-        before.long = true;
+    match given {
+        Given::Word { length } => with_word(before, ascii::front(word, length), argument),
+        _ => {
+            before.long = true;
+            with_word(before, b"", argument)
+        }
     }
-    with_word(before, &word[..length], argument)
 }
 
 // What the arguments after a command's word ask of it.
-pub fn asked_for(command: Command) -> Asked {
-    let count = os::arg_count();
+pub fn asked_for(rt: &HostRuntime, command: Command) -> Asked {
+    let mut word = io::buffer();
     let mut asked = nothing(command);
-    for k in 2..count {
-        let after = with_argument(asked, k);
+    for k in 2..usize::MAX {
+        let given = given_at(rt, k, &mut word);
+        if is_missing(given) {
+            return asked;
+        }
+        let after = with_given(asked, given, &word, k);
         asked = after;
     }
     asked
 }
 
 // Which argument an operand is. Operands count from 0.
-fn argument_of(command: Command, place: usize) -> usize {
-    let count = os::arg_count();
+fn argument_of(rt: &HostRuntime, command: Command, place: usize) -> usize {
+    let mut word = io::buffer();
     let mut asked = nothing(command);
-    for k in 2..count {
-        let after = with_argument(asked, k);
+    for k in 2..usize::MAX {
+        let given = given_at(rt, k, &mut word);
+        if is_missing(given) {
+            return 0;
+        }
+        let after = with_given(asked, given, &word, k);
         if place < after.operands {
             return k;
         }
@@ -286,15 +298,17 @@ fn argument_of(command: Command, place: usize) -> usize {
 }
 
 // Puts an operand at the front of a buffer, and returns its length.
-pub fn operand(asked: Asked, place: usize, name: &mut [u8]) -> usize {
+pub fn operand(rt: &HostRuntime, asked: Asked, place: usize, name: &mut [u8]) -> usize
+    ensures { result ≤ length name.new }
+{
     let command = asked.command;
-    os::arg(argument_of(command, place), name)
+    argument(rt, argument_of(rt, command, place), name)
 }
 
 // A message about the use of a command, which names its help.
-fn complain_about(words: &[u8], command: Command) -> bool {
+fn complain_about(rt: &HostRuntime, words: &[u8], command: Command) -> bool {
     let mut page = io::buffer();
-    let begun = files::message_of(&mut page, words);
+    let begun = files::message_of(rt, &mut page, words);
     let asked = files::put(&mut page, begun, b"; see exchange ");
     let named = put_command(&mut page, asked, command);
     let whole = files::put(&mut page, named, b" --help\n");
@@ -321,12 +335,12 @@ pub(crate) fn put_command(
     }
 }
 
-fn no_option(asked: Asked) -> bool {
+fn no_option(rt: &HostRuntime, asked: Asked) -> bool {
     let command = asked.command;
     let mut word = io::buffer();
-    let length = os::arg(asked.wrong, &mut word);
+    let length = argument(rt, asked.wrong, &mut word);
     let mut page = io::large_buffer();
-    let begun = files::message_of(&mut page, b"no option `");
+    let begun = files::message_of(rt, &mut page, b"no option `");
     let told = files::put(&mut page, begun, &word[..length]);
     let asking = files::put(&mut page, told, b"`; see exchange ");
     let named = put_command(&mut page, asking, command);
@@ -344,26 +358,29 @@ fn least_operands(command: Command) -> usize {
     }
 }
 
-fn needs(command: Command) -> bool {
+fn needs(rt: &HostRuntime, command: Command) -> bool {
     match command {
-        Command::Sheet => complain_about(b"sheet needs a ticket", command),
+        Command::Sheet => complain_about(rt, b"sheet needs a ticket", command),
         Command::Settle => complain_about(
+            rt,
             b"settle needs a ticket and a name for the settlement",
             command,
         ),
-        Command::Mark => complain_about(b"mark needs a ticket and a settlement", command),
-        Command::Account => complain_about(b"account needs a ticket and a settlement", command),
-        Command::Unpack => complain_about(b"unpack needs a ticket or a settlement", command),
-        Command::Pack => complain_about(b"pack needs a text and a name for the file", command),
+        Command::Mark => complain_about(rt, b"mark needs a ticket and a settlement", command),
+        Command::Account => complain_about(rt, b"account needs a ticket and a settlement", command),
+        Command::Unpack => complain_about(rt, b"unpack needs a ticket or a settlement", command),
+        Command::Pack => complain_about(rt, b"pack needs a text and a name for the file", command),
         Command::Draw => complain_about(
+            rt,
             b"draw needs a seed, how many growers and pilots, and a name for the ticket",
             command,
         ),
         Command::Windows => complain_about(
+            rt,
             b"windows needs a ticket, windows and a name for the new ticket",
             command,
         ),
-        _ => complain_about(b"desk needs a ticket", command),
+        _ => complain_about(rt, b"desk needs a ticket", command),
     }
 }
 
@@ -382,33 +399,33 @@ fn is_desk(command: Command) -> bool {
 }
 
 // Whether standard input is read once at most. The desk has its calls from there.
-fn reads_once(command: Command, dashes: usize) -> bool {
+fn reads_once(rt: &HostRuntime, command: Command, dashes: usize) -> bool {
     if is_desk(command) && 0 < dashes {
-        return complain_about(b"the calls come from standard input", command);
+        return complain_about(rt, b"the calls come from standard input", command);
     }
     if 1 < dashes {
-        return complain_about(b"standard input can be read only once", command);
+        return complain_about(rt, b"standard input can be read only once", command);
     }
     true
 }
 
 // Whether a command can do what is asked. If not, it is told why.
-pub fn fits(command: Command, asked: Asked) -> bool {
+pub fn fits(rt: &HostRuntime, command: Command, asked: Asked) -> bool {
     if asked.long {
-        complain(b"an argument of more than 4096 bytes");
+        complain(rt, b"an argument of more than 4096 bytes");
         return false;
     }
     if asked.wrong != 0 {
-        return no_option(asked);
+        return no_option(rt, asked);
     }
     if asked.awaiting {
-        return complain_about(b"--names needs a file", command);
+        return complain_about(rt, b"--names needs a file", command);
     }
     if asked.operands < least_operands(command) {
-        return needs(command);
+        return needs(rt, command);
     }
     if least_operands(command) < asked.operands && !is_mark(command) {
-        return complain_about(b"too many arguments", command);
+        return complain_about(rt, b"too many arguments", command);
     }
-    reads_once(command, asked.dashes)
+    reads_once(rt, command, asked.dashes)
 }

@@ -2,7 +2,6 @@
 use crate::asked::{Command, command_of};
 use crate::status::written;
 use files::{Stream, put};
-use libc::STDOUT_FILENO;
 
 fn put_help(page: &mut [u8], stream: Stream) -> Stream {
     put(
@@ -176,30 +175,30 @@ fn put_help_for(page: &mut [u8], stream: Stream, command: Command) -> Stream {
 }
 
 // Prints what a command does.
-pub fn help_for(command: Command) -> i32 {
+pub fn help_for(rt: &HostRuntime, command: Command) -> i32 {
     let mut page = io::buffer();
-    let text = put_help_for(&mut page, files::to(STDOUT_FILENO), command);
+    let text = put_help_for(&mut page, files::to_output(rt), command);
     written(files::finish(&page, text))
 }
 
 // Prints what the command does that the second argument names, or all commands.
-pub fn help() -> i32 {
+pub fn help(rt: &HostRuntime) -> i32 {
     let mut word = io::buffer();
-    let length = os::arg(2, &mut word);
+    let length = crate::arguments::argument(rt, 2, &mut word);
     let command = command_of(&word[..length]);
     match command {
         Command::Unknown => {
             if length == 0 {
-                return help_for(Command::Help);
+                return help_for(rt, Command::Help);
             }
-            crate::nearest::no_command(&word[..length])
+            crate::nearest::no_command(rt, &word[..length])
         }
-        _ => help_for(command),
+        _ => help_for(rt, command),
     }
 }
 
-pub fn version() -> i32 {
+pub fn version(rt: &HostRuntime) -> i32 {
     let mut page = io::buffer();
-    let text = put(&mut page, files::to(STDOUT_FILENO), b"exchange 1.7.0\n");
+    let text = put(&mut page, files::to_output(rt), b"exchange 1.7.0\n");
     written(files::finish(&page, text))
 }

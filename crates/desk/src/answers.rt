@@ -3,7 +3,6 @@ use crate::saving::{pack, save};
 use desk_calls::{Call, Fault, call_of, word};
 use files::{Stream, complain, put};
 use layouts::Layout;
-use libc::STDOUT_FILENO;
 use open_market::{Answer, Market, Terms};
 use reader::Reply;
 
@@ -23,12 +22,12 @@ fn put_reply(page: &mut [u8], stream: Stream, refusal: u8) -> Stream {
 }
 
 // The market after a call that sets something. Why it was refused is told after the answer.
-fn changed(answer: Answer) -> After {
+fn changed(rt: &HostRuntime, answer: Answer) -> After {
     let mut page = io::buffer();
-    let told = put_reply(&mut page, files::to(STDOUT_FILENO), answer.refusal);
+    let told = put_reply(&mut page, files::to_output(rt), answer.refusal);
     let done = files::finish(&page, told);
     if answer.refusal != 0 {
-        printing::tell_refusal(answer.refusal);
+        printing::tell_refusal(rt, answer.refusal);
     }
     let market = answer.market;
     After {
@@ -59,8 +58,14 @@ fn put_ticket(page: &mut [u8], stream: Stream, market: Market) -> Stream {
     printing::put_document(page, stream, Layout::Ticket, tables::ticket_front(&ticket))
 }
 
-fn put_saved(page: &mut [u8], stream: Stream, market: Market, line: &[u8]) -> Stream {
-    if save(market, word(line, 1), word(line, 2)) {
+fn put_saved(
+    rt: &HostRuntime,
+    page: &mut [u8],
+    stream: Stream,
+    market: Market,
+    line: &[u8],
+) -> Stream {
+    if save(rt, market, word(line, 1), word(line, 2)) {
         return put(page, stream, b"OK\n");
     }
     put(page, stream, b"FAILED\n")
@@ -84,22 +89,29 @@ fn put_no_call(page: &mut [u8], stream: Stream) -> Stream {
     put(page, stream, b"?\n")
 }
 
-fn tell_fault(fault: Fault) {
+fn tell_fault(rt: &HostRuntime, fault: Fault) {
     match fault {
-        Fault::NoSuchCall => complain(b"line: no such call; help lists them"),
-        Fault::WordCount => complain(b"line: too many words, or too few"),
-        Fault::NoHours => complain(b"line: the word hours is missing"),
-        Fault::NoNumber => complain(b"line: not a number up to 65535"),
+        Fault::NoSuchCall => complain(rt, b"line: no such call; help lists them"),
+        Fault::WordCount => complain(rt, b"line: too many words, or too few"),
+        Fault::NoHours => complain(rt, b"line: the word hours is missing"),
+        Fault::NoNumber => complain(rt, b"line: not a number up to 65535"),
     }
 }
 
 // What a call answers that changes nothing.
-fn put_shown(page: &mut [u8], stream: Stream, market: Market, line: &[u8], call: Call) -> Stream {
+fn put_shown(
+    rt: &HostRuntime,
+    page: &mut [u8],
+    stream: Stream,
+    market: Market,
+    line: &[u8],
+    call: Call,
+) -> Stream {
     match call {
         Call::Sheet => put_sheet(page, stream, market),
         Call::Free => put_free_hours(page, stream, market),
         Call::Ticket => put_ticket(page, stream, market),
-        Call::Save => put_saved(page, stream, market, line),
+        Call::Save => put_saved(rt, page, stream, market, line),
         Call::Help => put_help(page, stream),
         Call::NoCall { fault: _ } => put_no_call(page, stream),
         _ => stream,
@@ -107,21 +119,21 @@ fn put_shown(page: &mut [u8], stream: Stream, market: Market, line: &[u8], call:
 }
 
 // Answers such a call, and tells whether the answer could not be written.
-fn show(market: Market, line: &[u8], call: Call) -> bool {
+fn show(rt: &HostRuntime, market: Market, line: &[u8], call: Call) -> bool {
     let mut page = io::large_buffer();
-    let told = put_shown(&mut page, files::to(STDOUT_FILENO), market, line, call);
+    let told = put_shown(rt, &mut page, files::to_output(rt), market, line, call);
     let done = files::finish(&page, told);
     if let Call::NoCall { fault } = call {
-        tell_fault(fault);
+        tell_fault(rt, fault);
     }
     !done
 }
 
-pub(crate) fn too_long(market: Market) -> After {
+pub(crate) fn too_long(rt: &HostRuntime, market: Market) -> After {
     let mut page = io::buffer();
-    let told = put_no_call(&mut page, files::to(STDOUT_FILENO));
+    let told = put_no_call(&mut page, files::to_output(rt));
     let done = files::finish(&page, told);
-    complain(b"line: more than 4096 bytes");
+    complain(rt, b"line: more than 4096 bytes");
     After {
         market,
         failed: !done,
@@ -129,14 +141,14 @@ pub(crate) fn too_long(market: Market) -> After {
 }
 
 // The market after a line.
-pub(crate) fn answer(market: Market, line: &[u8]) -> After {
+pub(crate) fn answer(rt: &HostRuntime, market: Market, line: &[u8]) -> After {
     let call = call_of(line);
     match call {
         Call::GrowerHours { grower, hours } => {
-            changed(open_market::set_grower_hours(market, grower, hours))
+            changed(rt, open_market::set_grower_hours(market, grower, hours))
         }
         Call::PilotHours { pilot, hours } => {
-            changed(open_market::set_pilot_hours(market, pilot, hours))
+            changed(rt, open_market::set_pilot_hours(market, pilot, hours))
         }
         Call::Pair {
             grower,
@@ -154,10 +166,10 @@ pub(crate) fn answer(market: Market, line: &[u8]) -> After {
                 free_cap,
                 joint_gain,
             };
-            changed(open_market::set_pair(market, grower, pilot, terms))
+            changed(rt, open_market::set_pair(market, grower, pilot, terms))
         }
         _ => {
-            let failed = show(market, line, call);
+            let failed = show(rt, market, line, call);
             After { market, failed }
         }
     }

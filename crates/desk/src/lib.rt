@@ -20,14 +20,14 @@ pub enum Served {
 }
 
 // Opens the market of a ticket's file, and answers calls until the input ends.
-pub fn serve(ticket: &[u8]) -> Served {
+pub fn serve(rt: &HostRuntime, ticket: &[u8]) -> Served {
     let answer = open_market::open(ticket);
     if answer.refusal != 0 {
         return Served::Refused {
             why: answer.refusal,
         };
     }
-    if talk(answer.market) {
+    if talk(rt, answer.market) {
         return Served::Done;
     }
     Served::Failed

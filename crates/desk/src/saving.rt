@@ -8,16 +8,16 @@ pub(crate) fn pack(market: Market, file: &mut [u8]) -> Reply {
     reader::pack(tables::ticket_front(&ticket), file)
 }
 
-fn save_ticket(market: Market, name: &[u8]) -> bool {
+fn save_ticket(rt: &HostRuntime, market: Market, name: &[u8]) -> bool {
     let mut file = files::ticket_bytes();
     let reply = pack(market, &mut file);
     match reply {
         Reply::Refused { why: _ } => false,
-        Reply::Done { count } => files::write_named(name, ascii::front(&file, count)),
+        Reply::Done { count } => files::write_named(rt, name, ascii::front(&file, count)),
     }
 }
 
-fn save_settlement(market: Market, name: &[u8]) -> bool {
+fn save_settlement(rt: &HostRuntime, market: Market, name: &[u8]) -> bool {
     let mut file = files::settlement_bytes();
     let ticket = market.ticket;
     let settlement = market.settlement;
@@ -29,11 +29,16 @@ fn save_settlement(market: Market, name: &[u8]) -> bool {
     );
     match reply {
         Reply::Refused { why: _ } => false,
-        Reply::Done { count } => files::write_named(name, ascii::front(&file, count)),
+        Reply::Done { count } => files::write_named(rt, name, ascii::front(&file, count)),
     }
 }
 
 // Writes the ticket, and then the settlement, and answers whether both are stored.
-pub(crate) fn save(market: Market, ticket_name: &[u8], settlement_name: &[u8]) -> bool {
-    save_ticket(market, ticket_name) && save_settlement(market, settlement_name)
+pub(crate) fn save(
+    rt: &HostRuntime,
+    market: Market,
+    ticket_name: &[u8],
+    settlement_name: &[u8],
+) -> bool {
+    save_ticket(rt, market, ticket_name) && save_settlement(rt, market, settlement_name)
 }

@@ -2,13 +2,14 @@
 #![tactic(auto)]
 
 use files::Got;
+use std::rt::Env;
 
-fn main() {
+fn main(rt: HostRuntime) {
     let mut name = io::buffer();
-    let length = os::arg(1, &mut name);
+    let length = rt.arg(1, &mut name).unwrap_or(0);
     let mut ticket = files::ticket_bytes();
-    let got = files::read(&name[..length], &mut ticket);
+    let got = files::read(&rt, ascii::front(&name, length), &mut ticket);
     if let Got::Bytes { count } = got {
-        desk::serve(ascii::front(&ticket, count));
+        desk::serve(&rt, ascii::front(&ticket, count));
     }
 }

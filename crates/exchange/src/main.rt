@@ -1,6 +1,16 @@
-// The exchange on the command line. A program has no exit status of its own here: `command_line` answers it to a caller in C.
+// The exchange on the command line. All of it is the library `command_line`, which answers the exit status: 0, 1 or 2.
 #![tactic(auto)]
 
-fn main() {
-    command_line::exchange_run();
+use std::process::ExitCode;
+
+// A status is below 256.
+fn code_of(status: i32) -> ExitCode {
+    match u8::try_from(status) {
+        Ok(code) => ExitCode::from(code),
+        Err(_) => ExitCode::FAILURE,
+    }
+}
+
+fn main(rt: HostRuntime) -> ExitCode {
+    code_of(command_line::exchange_run(&rt))
 }

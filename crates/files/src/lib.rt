@@ -5,14 +5,17 @@
 mod lines;
 mod links;
 mod messages;
+mod names;
 mod reading;
+mod reasons;
 mod room;
 mod streams;
 mod writing;
 
 pub use lines::{after_line, before_end, has_end};
 pub use messages::{complain, complain_of, fail, message_of};
-pub use reading::{Got, is_dash, read};
+pub use reading::{Got, fill, is_dash, read};
+pub use reasons::tell;
 pub use room::{settlement_bytes, ticket_bytes};
-pub use streams::{Stream, fill_in, finish, flush, put, put_number, to};
+pub use streams::{Stream, fill_in, finish, flush, put, put_number, to_errors, to_output};
 pub use writing::{write, write_named};

@@ -1,4 +1,8 @@
 // Names of files: the name that a symbolic link leads to, and a name beside another.
+use crate::names::name_of;
+use std::fs;
+use std::io::Result;
+use std::random::RandomSource;
 
 // The most links that are followed one after another, as many as Linux follows.
 const MOST_LINKS: usize = 40;
@@ -20,13 +24,13 @@ fn copy(path: &mut [u8], at: usize, bytes: &[u8]) -> usize {
     here
 }
 
-// The text of a link. It has no bytes if the name is that of no link.
-fn link_text(name: &[u8], text: &mut [u8]) -> usize {
-    let mut path = io::buffer();
-    copy(&mut path, 0, name);
-    path[4095] = 0;
-    let got = libc::readlink(&path, text);
-    io::count(got, text)
+// The text of a link. It has no bytes if the name is that of no link. It fails where the text is none that the library takes.
+fn link_text(rt: &HostRuntime, name: &[u8], text: &mut [u8]) -> Result<usize> {
+    match fs::read_link(rt, name_of(name)?) {
+        Ok(path) => Ok(copy(text, 0, path.as_str().as_bytes())),
+        Err(error) if error.raw_os_error().is_some() => Ok(0),
+        Err(error) => Err(error),
+    }
 }
 
 // How many bytes of a name are its folder's, with the `/` after it.
@@ -49,31 +53,43 @@ fn text_place(name: &[u8], text: &[u8]) -> usize {
 }
 
 // The length of a name after one link, which takes the name's place; 0 if it is no link's.
-fn follow(path: &mut [u8], length: usize) -> usize {
+fn follow(rt: &HostRuntime, path: &mut [u8], length: usize) -> Result<usize> {
     let mut text = io::buffer();
-    let count = link_text(ascii::front(path, length), &mut text);
+    let count = link_text(rt, ascii::front(path, length), &mut text)?;
     if count == 0 {
-        return 0;
+        return Ok(0);
     }
     let start = text_place(ascii::front(path, length), ascii::front(&text, count));
-    copy(path, start, ascii::front(&text, count))
+    Ok(copy(path, start, ascii::front(&text, count)))
 }
 
 // Puts the name that a name leads to into a path, and returns its length.
-pub(crate) fn followed(name: &[u8], path: &mut [u8]) -> usize {
+pub(crate) fn followed(rt: &HostRuntime, name: &[u8], path: &mut [u8]) -> Result<usize> {
     let mut end = copy(path, 0, name);
     for k in 0..MOST_LINKS {
-        let next = follow(path, end);
+        let next = follow(rt, path, end)?;
         if next == 0 {
-            return end;
+            return Ok(end);
         }
         end = next;
     }
-    end
+    Ok(end)
 }
 
-// Puts a name for a new file beside another into a path, with the letters that `os::create_temp` replaces. Returns its length.
-pub(crate) fn beside(name: &[u8], path: &mut [u8]) -> usize {
-    let length = copy(path, 0, name);
-    copy(path, length, b".XXXXXX")
+const LETTERS: [u8; 62] = *b"ABCDEFGHIJKLMNOPQRSTUVWXYZabcdefghijklmnopqrstuvwxyz0123456789";
+
+fn letter(byte: u8) -> u8 {
+    LETTERS[byte as usize % 62]
+}
+
+// Puts a name for a new file beside another into a path, which ends in six letters drawn by the system. Returns its length.
+pub(crate) fn beside(rt: &HostRuntime, name: &[u8], path: &mut [u8]) -> Result<usize> {
+    let mut drawn = [0u8; 6];
+    rt.fill_bytes(&mut drawn)?;
+    let mut end = copy(path, 0, name);
+    end = put(path, end, b'.');
+    for k in 0..6 {
+        end = put(path, end, letter(drawn[k]));
+    }
+    Ok(end)
 }

@@ -1,6 +1,7 @@
 // Messages, on standard error. Each is a line that begins with `exchange: `.
-use crate::streams::{Stream, flush, put, to};
-use libc::STDERR_FILENO;
+use crate::reasons::tell;
+use crate::streams::{Stream, flush, put, to_errors};
+use std::io::Error;
 
 // Room for a name and more.
 fn room() -> [u8; 8192] {
@@ -8,23 +9,23 @@ fn room() -> [u8; 8192] {
 }
 
 // Puts how a message begins.
-pub fn message_of(page: &mut [u8], name: &[u8]) -> Stream {
-    let begun = put(page, to(STDERR_FILENO), b"exchange: ");
+pub fn message_of(rt: &HostRuntime, page: &mut [u8], name: &[u8]) -> Stream {
+    let begun = put(page, to_errors(rt), b"exchange: ");
     put(page, begun, name)
 }
 
 // A message about the program's use.
-pub fn complain(words: &[u8]) {
+pub fn complain(rt: &HostRuntime, words: &[u8]) {
     let mut page = room();
-    let begun = message_of(&mut page, words);
+    let begun = message_of(rt, &mut page, words);
     let whole = put(&mut page, begun, b"\n");
     flush(&page, whole);
 }
 
 // A message about a file.
-pub fn complain_of(name: &[u8], words: &[u8]) {
+pub fn complain_of(rt: &HostRuntime, name: &[u8], words: &[u8]) {
     let mut page = room();
-    let begun = message_of(&mut page, name);
+    let begun = message_of(rt, &mut page, name);
     let named = put(&mut page, begun, b": ");
     let told = put(&mut page, named, words);
     let whole = put(&mut page, told, b"\n");
@@ -32,8 +33,8 @@ pub fn complain_of(name: &[u8], words: &[u8]) {
 }
 
 // Which file a call of the system failed on, and the system's reason.
-pub fn fail(name: &[u8]) {
+pub fn fail(rt: &HostRuntime, name: &[u8], error: Error) {
     let mut page = room();
-    let begun = message_of(&mut page, name);
-    os::fail(ascii::front(&page, begun.filled));
+    let begun = message_of(rt, &mut page, name);
+    tell(rt, ascii::front(&page, begun.filled), error);
 }

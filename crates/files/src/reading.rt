@@ -1,6 +1,8 @@
 // Reading a file, or standard input where it is named `-`. What fails is told on standard error, with the system's reason.
 use crate::messages::fail;
-use libc::STDIN_FILENO;
+use crate::names::name_of;
+use std::fs::File;
+use std::io::{Read, Result};
 
 // How many bytes were read, unless reading failed.
 #[derive(Clone, Copy)]
@@ -13,29 +15,36 @@ pub fn is_dash(name: &[u8]) -> bool {
     check::same(name, b"-")
 }
 
-// Reads from an open file as far as the buffer goes. A read that fails leaves fewer bytes, and so does the end of the file: only the
-// next read tells them apart.
-fn read_open(fd: i32, name: &[u8], buffer: &mut [u8]) -> Got {
-    let count = io::read_full(fd, buffer);
-    let mut byte = [0u8; 1];
-    if libc::read(fd, &mut byte) < 0 {
-        fail(name);
-        return Got::Failed;
+// Reads as far as the buffer goes, and once more, for a read that fails past it.
+pub fn fill(source: &mut impl Read, buffer: &mut [u8]) -> Result<usize> {
+    let mut count = 0;
+    while count < buffer.len() {
+        let got = source.read(&mut buffer[count..])?;
+        if got == 0 {
+            break;
+        }
+        count += got;
     }
-    Got::Bytes { count }
+    let mut byte = [0u8; 1];
+    source.read(&mut byte)?;
+    Ok(count)
+}
+
+fn fill_from(rt: &HostRuntime, name: &[u8], buffer: &mut [u8]) -> Result<usize> {
+    if is_dash(name) {
+        return fill(&mut rt.stdin(), buffer);
+    }
+    let mut file = File::open(rt, name_of(name)?)?;
+    fill(&mut file, buffer)
 }
 
 // Reads a file, as far as the buffer goes.
-pub fn read(name: &[u8], buffer: &mut [u8]) -> Got {
-    if is_dash(name) {
-        return read_open(STDIN_FILENO, name, buffer);
+pub fn read(rt: &HostRuntime, name: &[u8], buffer: &mut [u8]) -> Got {
+    match fill_from(rt, name, buffer) {
+        Ok(count) => Got::Bytes { count },
+        Err(error) => {
+            fail(rt, name, error);
+            Got::Failed
+        }
     }
-    let fd = os::open_read(name);
-    if fd < 0 {
-        fail(name);
-        return Got::Failed;
-    }
-    let got = read_open(fd, name, buffer);
-    libc::close(fd);
-    got
 }

@@ -1,50 +1,66 @@
 // Text for standard output and standard error. It is gathered in a lent buffer, the page, and written when the page is full or the text is
 // done. No contract can say what the system writes.
+use crate::reasons::tell;
 
 // Where a text goes, how many bytes of the page are filled, and whether a write has failed: then nothing more is written.
 #[derive(Clone, Copy)]
 pub struct Stream {
-    pub fd: i32,
+    rt: HostRuntime,
+    to_errors: bool,
     pub filled: usize,
     pub failed: bool,
 }
 
-// The text that begins on an empty page.
-pub fn to(fd: i32) -> Stream {
+// The text that begins on an empty page, for standard output.
+pub fn to_output(rt: &HostRuntime) -> Stream {
     Stream {
-        fd,
+        rt: *rt,
+        to_errors: false,
+        filled: 0,
+        failed: false,
+    }
+}
+
+// The same for standard error.
+pub fn to_errors(rt: &HostRuntime) -> Stream {
+    Stream {
+        rt: *rt,
+        to_errors: true,
         filled: 0,
         failed: false,
     }
 }
 
 // A write that fails is told on standard error, once, since a text that was cut short looks whole.
-fn written(fd: i32, words: &[u8]) -> bool {
-    if io::write_all(fd, words) {
-        return true;
+fn written(stream: Stream, words: &[u8]) -> bool {
+    let rt = stream.rt;
+    if stream.to_errors {
+        return rt.stderr().write_all(words).is_ok();
     }
-    if fd != libc::STDERR_FILENO {
-        os::fail(b"exchange: standard output");
+    match rt.stdout().write_all(words) {
+        Ok(()) => true,
+        Err(error) => {
+            tell(&rt, b"exchange: standard output", error);
+            false
+        }
     }
-    false
+}
+
+// The stream after its page was written, or was not.
+fn after_page(stream: Stream, failed: bool) -> Stream {
+    let mut after = stream;
+    after.filled = 0;
+    after.failed = failed;
+    after
 }
 
 // Writes what the page holds.
 pub fn flush(page: &[u8], stream: Stream) -> Stream {
-    let fd = stream.fd;
     if stream.failed {
-        return Stream {
-            fd,
-            filled: 0,
-            failed: true,
-        };
+        return after_page(stream, true);
     }
-    let done = written(fd, ascii::front(page, stream.filled));
-    Stream {
-        fd,
-        filled: 0,
-        failed: !done,
-    }
+    let done = written(stream, ascii::front(page, stream.filled));
+    after_page(stream, !done)
 }
 
 // The same at the end of a text: whether all of it is written.
@@ -63,11 +79,9 @@ pub fn put(page: &mut [u8], stream: Stream, words: &[u8]) -> Stream {
         now = flush(page, stream);
     }
     let filled = pages::put(page, now.filled, words);
-    Stream {
-        fd: now.fd,
-        filled,
-        failed: now.failed,
-    }
+    let mut after = now;
+    after.filled = filled;
+    after
 }
 
 // The text with a number after it.

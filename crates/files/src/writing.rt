@@ -1,127 +1,168 @@
 // Writing a file, so that no half of it ever stands under its name. What fails is told on standard error, with the system's reason.
 use crate::links::{beside, followed};
 use crate::messages::fail;
+use crate::names::name_of;
 use crate::reading::is_dash;
-use libc::STDOUT_FILENO;
+use std::fs;
+use std::fs::{File, OpenOptions};
+use std::io::{Error, ErrorKind, Result, Write};
+use std::os::unix::fs::OpenOptionsExt;
 
-// No file: the name is free.
-const NO_FILE: i32 = -1;
+// The system's number for a name that is free.
+const NO_SUCH_FILE: i32 = 2;
 
-// Writes bytes to an open file and closes it, and answers whether all of them are stored.
-fn store(fd: i32, bytes: &[u8]) -> bool {
-    if !io::write_all(fd, bytes) {
-        libc::close(fd);
-        return false;
-    }
-    if libc::fsync(fd) < 0 {
-        libc::close(fd);
-        return false;
-    }
-    libc::close(fd) == 0
+// How often a name is drawn for a new file, where others have taken the names before.
+const MOST_DRAWS: usize = 100;
+
+// The rights asked for a new file: those that the system gives to new files, or those of its owner alone until it has an old file's.
+const USUAL_RIGHTS: u32 = 0o666;
+
+const PRIVATE_RIGHTS: u32 = 0o600;
+
+// Writes bytes to an open file and closes it: all of them are stored, or it fails.
+fn store(mut file: File, bytes: &[u8]) -> Result<()> {
+    file.write_all(bytes)?;
+    file.sync_all()
 }
 
-// A new file under a name that nobody has, which nobody else may read.
-fn private_file(name: &mut [u8], length: usize) -> i32 {
-    if length <= name.len() {
-        os::create_temp(&mut name[..length])
-    } else {
-        -1
-    }
+fn create(rt: &HostRuntime, name: &[u8], rights: u32) -> Result<File> {
+    OpenOptions::new()
+        .write(true)
+        .create_new(true)
+        .mode(rights)
+        .open(rt, name_of(name)?)
 }
 
-// The same with the rights that the system gives to new files: the name was free a moment ago, and if it is not, `create` refuses it.
-fn public_file(name: &mut [u8], length: usize) -> i32 {
-    let fd = private_file(name, length);
-    if fd < 0 {
-        return fd;
+// A new file, and the length of its name.
+#[derive(Drop)]
+struct NewFile {
+    file: File,
+    length: usize,
+}
+
+// A new file beside another, under a name that nobody has, which takes the place of what the path held.
+fn new_beside(rt: &HostRuntime, target: &[u8], path: &mut [u8], rights: u32) -> Result<NewFile> {
+    for k in 0..MOST_DRAWS {
+        let length = beside(rt, target, path)?;
+        match create(rt, ascii::front(path, length), rights) {
+            Ok(file) => return Ok(NewFile { file, length }),
+            Err(error) if error.kind() == ErrorKind::AlreadyExists => {}
+            Err(error) => return Err(error),
+        }
     }
-    libc::close(fd);
-    os::unlink(ascii::front(name, length));
-    os::create(ascii::front(name, length))
+    Err(Error::from(ErrorKind::AlreadyExists))
 }
 
 // A new file in the place of an open one, with its owner and rights, or of none.
-fn new_file(name: &mut [u8], length: usize, old: i32) -> i32 {
-    if old < 0 {
-        return public_file(name, length);
+fn new_file(
+    rt: &HostRuntime,
+    target: &[u8],
+    path: &mut [u8],
+    old: Option<&File>,
+) -> Result<NewFile> {
+    match old {
+        None => new_beside(rt, target, path, USUAL_RIGHTS),
+        Some(old) => {
+            let new = new_beside(rt, target, path, PRIVATE_RIGHTS)?;
+            file_modes::keep(old, &new.file);
+            Ok(new)
+        }
     }
-    let fd = private_file(name, length);
-    if 0 <= fd {
-        file_modes::keep(old, fd);
-    }
-    fd
 }
 
-// Fills a new file and gives it the name of the old one, which stays as it was until then. Where that fails the new one is removed.
-fn exchange_files(fd: i32, new: &[u8], target: &[u8], name: &[u8], bytes: &[u8]) -> bool {
-    if store(fd, bytes) && os::rename(new, target) == 0 {
-        return true;
+// Fills a new file and gives it the name of the old one, which stays as it was until then.
+fn store_as(rt: &HostRuntime, file: File, new: &[u8], target: &[u8], bytes: &[u8]) -> Result<()> {
+    store(file, bytes)?;
+    fs::rename(rt, name_of(new)?, name_of(target)?)
+}
+
+fn remove(rt: &HostRuntime, name: &[u8]) -> Result<()> {
+    fs::remove_file(rt, name_of(name)?)
+}
+
+// The same, and where it fails the new file is removed.
+fn exchange_files(
+    rt: &HostRuntime,
+    file: File,
+    new: &[u8],
+    target: &[u8],
+    name: &[u8],
+    bytes: &[u8],
+) -> bool {
+    match store_as(rt, file, new, target, bytes) {
+        Ok(()) => true,
+        Err(error) => {
+            fail(rt, name, error);
+            let _ = remove(rt, new);
+            false
+        }
     }
-    fail(name);
-    os::unlink(new);
-    false
 }
 
 // Writes a new file beside the one that is named, or beside the one that its link leads to, and gives it that name once it is whole.
-fn replace(name: &[u8], old: i32, bytes: &[u8]) -> bool {
-    let mut target = io::buffer();
-    let target_length = followed(name, &mut target);
+fn replace(rt: &HostRuntime, name: &[u8], old: Option<&File>, bytes: &[u8]) -> Result<bool> {
+    let mut path = io::buffer();
+    let target_length = followed(rt, name, &mut path)?;
+    let target = ascii::front(&path, target_length);
     let mut new = io::buffer();
-    let new_length = beside(ascii::front(&target, target_length), &mut new);
-    let fd = new_file(&mut new, new_length, old);
-    if fd < 0 {
-        fail(name);
-        return false;
+    let made = new_file(rt, target, &mut new, old)?;
+    let NewFile { file, length } = made;
+    Ok(exchange_files(rt, file, ascii::front(&new, length), target, name, bytes))
+}
+
+// Whether something was done; what failed is told.
+fn told(rt: &HostRuntime, name: &[u8], done: Result<bool>) -> bool {
+    match done {
+        Ok(done) => done,
+        Err(error) => {
+            fail(rt, name, error);
+            false
+        }
     }
-    exchange_files(
-        fd,
-        ascii::front(&new, new_length),
-        ascii::front(&target, target_length),
-        name,
-        bytes,
-    )
 }
 
 // Writes bytes to a device or a pipe: a renamed file would take its place.
-fn write_through(fd: i32, name: &[u8], bytes: &[u8]) -> bool {
-    let done = io::write_all(fd, bytes);
-    if !done {
-        fail(name);
-    }
-    done
+fn write_through(mut device: File, bytes: &[u8]) -> Result<bool> {
+    device.write_all(bytes)?;
+    Ok(true)
 }
 
-fn write_over(name: &[u8], old: i32, bytes: &[u8]) -> bool {
-    if file_modes::is_file(old) {
-        return replace(name, old, bytes);
+fn write_over(rt: &HostRuntime, name: &[u8], old: File, bytes: &[u8]) -> Result<bool> {
+    if file_modes::is_file(&old) {
+        return replace(rt, name, Some(&old), bytes);
     }
-    write_through(old, name, bytes)
+    write_through(old, bytes)
 }
 
-// Writes the file of a name, which is free or that of a file that can be written. Answers whether it did. An open for appending leaves a
-// file as it is, and waits for a pipe's reader.
-pub fn write_named(name: &[u8], bytes: &[u8]) -> bool {
-    let old = os::open_append(name);
-    if old < 0 {
-        if os::errno() == libc::ENOENT {
-            return replace(name, NO_FILE, bytes);
+// An open for appending leaves a file as it is, and waits for a pipe's reader.
+fn open_append(rt: &HostRuntime, name: &[u8]) -> Result<File> {
+    OpenOptions::new().append(true).open(rt, name_of(name)?)
+}
+
+fn write_to(rt: &HostRuntime, name: &[u8], bytes: &[u8]) -> Result<bool> {
+    match open_append(rt, name) {
+        Ok(old) => write_over(rt, name, old, bytes),
+        Err(error) if error.raw_os_error() == Some(NO_SUCH_FILE) => {
+            replace(rt, name, None, bytes)
         }
-        fail(name);
-        return false;
+        Err(error) => Err(error),
     }
-    let done = write_over(name, old, bytes);
-    libc::close(old);
-    done
+}
+
+// Writes the file of a name, which is free or that of a file that can be written. Answers whether it did.
+pub fn write_named(rt: &HostRuntime, name: &[u8], bytes: &[u8]) -> bool {
+    told(rt, name, write_to(rt, name, bytes))
+}
+
+fn write_out(rt: &HostRuntime, bytes: &[u8]) -> Result<bool> {
+    rt.stdout().write_all(bytes)?;
+    Ok(true)
 }
 
 // The same, or standard output where the name is `-`.
-pub fn write(name: &[u8], bytes: &[u8]) -> bool {
-    if !is_dash(name) {
-        return write_named(name, bytes);
+pub fn write(rt: &HostRuntime, name: &[u8], bytes: &[u8]) -> bool {
+    if is_dash(name) {
+        return told(rt, name, write_out(rt, bytes));
     }
-    let done = io::write_all(STDOUT_FILENO, bytes);
-    if !done {
-        fail(name);
-    }
-    done
+    write_named(rt, name, bytes)
 }

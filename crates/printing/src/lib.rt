@@ -15,9 +15,9 @@ pub fn put_refused(page: &mut [u8], stream: Stream, why: u8) -> Stream {
 }
 
 // Why a call was refused, on standard error.
-pub fn tell_refusal(why: u8) {
+pub fn tell_refusal(rt: &HostRuntime, why: u8) {
     let mut page = io::buffer();
-    let begun = message_of(&mut page, b"");
+    let begun = message_of(rt, &mut page, b"");
     let told = words::put_refusal(&mut page, begun, why);
     let whole = put(&mut page, told, b"\n");
     flush(&page, whole);
