@@ -1,4 +1,4 @@
--- The sheet of a settled ticket as bytes. That of a refused one is `refused_text` (`bytes`).
+-- The sheet of a settled ticket as bytes. That of a refused one is `refused_text` (`ascii`).
 -- Assumes nothing.
 use Rattle.std.specs.Prelude.{ℕ, zero, suc, ◌-◌, ◌*◌, ◌/◌, ◌%◌, List, [], ◌∷◌, ◌++◌, cond, ◌&&◌, eqb}
 use Rattle.market.specs.declared.Deal.TheVariants.{Tariff, Free}
