@@ -4,12 +4,18 @@ use crate::refusals::{refuse_bytes, tell_why};
 use accounts::Account;
 use checks::Document;
 use commands::{Asked, FAILED, NOT_SOUND, operand, written};
-use files::Got;
+use files::{Got, Standard};
 use reader::Reply;
 
 fn print(rt: &HostRuntime, list: [u32; 48], growers: usize, pilots: usize) -> i32 {
     let mut page = io::large_buffer();
-    let lines = answer_texts::put_account(&mut page, files::to_output(rt), list, growers, pilots);
+    let lines = answer_texts::put_account(
+        &mut page,
+        files::to(rt, Standard::Output),
+        list,
+        growers,
+        pilots,
+    );
     written(files::finish(&page, lines))
 }
 
@@ -19,7 +25,7 @@ fn refuse(rt: &HostRuntime, asked: Asked, why: u8, document: Document, settlemen
         return refuse_bytes(rt, asked, 1, why, document, settlement);
     }
     let mut page = io::buffer();
-    let line = printing::put_refused(&mut page, files::to_output(rt), why);
+    let line = printing::put_refused(&mut page, files::to(rt, Standard::Output), why);
     if !files::finish(&page, line) {
         return FAILED;
     }

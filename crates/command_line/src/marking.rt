@@ -4,7 +4,7 @@ use crate::refusals::{refuse_bytes, tell_of_bytes};
 use crate::sheet::put_sheet;
 use checks::Document;
 use commands::{Asked, DONE, FAILED, of_verdict, operand, worse};
-use files::{Got, Stream, fill_in, put};
+use files::{Got, Standard, Stream, fill_in, put};
 use market::Deal;
 use reader::Reply;
 use verdicts::Verdict;
@@ -140,7 +140,7 @@ fn put_judged(
     agreed: &[u16],
     verdict: Verdict,
 ) -> Stream {
-    let stream = files::to_output(rt);
+    let stream = files::to(rt, Standard::Output);
     if asked.json {
         return put_object(page, stream, asked, name, terms, agreed, verdict);
     }
@@ -150,7 +150,7 @@ fn put_judged(
 }
 
 fn put_refused(rt: &HostRuntime, page: &mut [u8], asked: Asked, name: &[u8], why: u8) -> Stream {
-    let stream = files::to_output(rt);
+    let stream = files::to(rt, Standard::Output);
     if asked.json {
         let verdict = Verdict::Refused { why };
         return answer_texts::put_marked(
@@ -285,7 +285,13 @@ fn mark_ticket(rt: &HostRuntime, asked: Asked, ticket: &[u8], terms: &[u16]) -> 
         return status;
     }
     let mut page = io::large_buffer();
-    let model = put_sheet(&mut page, files::to_output(rt), asked.json, ticket, terms);
+    let model = put_sheet(
+        &mut page,
+        files::to(rt, Standard::Output),
+        asked.json,
+        ticket,
+        terms,
+    );
     if files::finish(&page, model) {
         return status;
     }

@@ -3,7 +3,7 @@ use crate::files_in::{read_operand, write_operand};
 use crate::refusals::{refuse_bytes, refuse_text};
 use checks::Document;
 use commands::{Asked, FAILED, operand, written};
-use files::{Got, Stream, complain_of, fill_in};
+use files::{Got, Standard, Stream, complain_of, fill_in};
 use layouts::{Layout, TextRead};
 use numbers::{entry, index};
 use reader::Reply;
@@ -84,7 +84,7 @@ fn put_document(page: &mut [u8], stream: Stream, asked: Asked, list: &[u16]) -> 
 
 fn print(rt: &HostRuntime, asked: Asked, list: &[u16]) -> i32 {
     let mut page = io::large_buffer();
-    let text = put_document(&mut page, files::to_output(rt), asked, list);
+    let text = put_document(&mut page, files::to(rt, Standard::Output), asked, list);
     written(files::finish(&page, text))
 }
 

@@ -3,18 +3,18 @@ use crate::lines::line_in_document;
 use answer_texts::put_refusal_object;
 use checks::{Document, refusals_of};
 use commands::{Asked, FAILED, operand};
-use files::{Stream, fill_in, message_of, put};
+use files::{Standard, Stream, fill_in, message_of, put};
 use layouts::Layout;
 
 // The answer to what is refused.
 fn answer(rt: &HostRuntime, json: bool, why: u8) {
     let mut page = io::buffer();
     if json {
-        let object = put_refusal_object(&mut page, files::to_output(rt), why);
+        let object = put_refusal_object(&mut page, files::to(rt, Standard::Output), why);
         files::flush(&page, object);
         return;
     }
-    let line = printing::put_refused(&mut page, files::to_output(rt), why);
+    let line = printing::put_refused(&mut page, files::to(rt, Standard::Output), why);
     files::flush(&page, line);
 }
 

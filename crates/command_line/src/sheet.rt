@@ -5,7 +5,7 @@ use crate::sheet_table::print_table;
 use checks::Document;
 use commands::{Asked, DONE, FAILED, written};
 use desk::Served;
-use files::{Got, Stream};
+use files::{Got, Standard, Stream};
 use reader::Reply;
 
 fn put_object_of(
@@ -68,7 +68,13 @@ fn print(rt: &HostRuntime, asked: Asked, ticket: &[u8], terms: &[u16]) -> i32 {
         return print_table(rt, asked, ticket, terms);
     }
     let mut page = io::large_buffer();
-    let sheet = put_sheet(&mut page, files::to_output(rt), asked.json, ticket, terms);
+    let sheet = put_sheet(
+        &mut page,
+        files::to(rt, Standard::Output),
+        asked.json,
+        ticket,
+        terms,
+    );
     written(files::finish(&page, sheet))
 }
 

@@ -1,6 +1,6 @@
 // A ticket settled, for people.
 use commands::{Asked, FAILED, written};
-use files::Got;
+use files::{Got, Standard};
 use reader::Reply;
 
 fn print(rt: &HostRuntime, ticket: &[u8], terms: &[u16], settlement: &[u8], names: &[u8]) -> i32 {
@@ -14,7 +14,7 @@ fn print(rt: &HostRuntime, ticket: &[u8], terms: &[u16], settlement: &[u8], name
     let account = accounts::account(ticket, settlement);
     let list = account.list;
     let mut page = io::large_buffer();
-    let stream = files::to_output(rt);
+    let stream = files::to(rt, Standard::Output);
     let table = answer_texts::put_table(
         &mut page,
         stream,

@@ -1,7 +1,7 @@
 // What the program says of itself: what each command does, and the version.
 use crate::asked::{Command, command_of};
 use crate::status::written;
-use files::{Stream, put};
+use files::{Standard, Stream, put};
 
 fn put_help(page: &mut [u8], stream: Stream) -> Stream {
     put(
@@ -177,7 +177,7 @@ fn put_help_for(page: &mut [u8], stream: Stream, command: Command) -> Stream {
 // Prints what a command does.
 pub fn help_for(rt: &HostRuntime, command: Command) -> i32 {
     let mut page = io::buffer();
-    let text = put_help_for(&mut page, files::to_output(rt), command);
+    let text = put_help_for(&mut page, files::to(rt, Standard::Output), command);
     written(files::finish(&page, text))
 }
 
@@ -199,6 +199,10 @@ pub fn help(rt: &HostRuntime) -> i32 {
 
 pub fn version(rt: &HostRuntime) -> i32 {
     let mut page = io::buffer();
-    let text = put(&mut page, files::to_output(rt), b"exchange 1.7.0\n");
+    let text = put(
+        &mut page,
+        files::to(rt, Standard::Output),
+        b"exchange 1.7.0\n",
+    );
     written(files::finish(&page, text))
 }

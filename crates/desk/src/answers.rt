@@ -1,7 +1,7 @@
 // The answer to a line.
 use crate::saving::{pack, save};
 use desk_calls::{Call, Fault, call_of, word};
-use files::{Stream, complain, put};
+use files::{Standard, Stream, complain, put};
 use layouts::Layout;
 use open_market::{Answer, Market, Terms};
 use reader::Reply;
@@ -24,7 +24,7 @@ fn put_reply(page: &mut [u8], stream: Stream, refusal: u8) -> Stream {
 // The market after a call that sets something. Why it was refused is told after the answer.
 fn changed(rt: &HostRuntime, answer: Answer) -> After {
     let mut page = io::buffer();
-    let told = put_reply(&mut page, files::to_output(rt), answer.refusal);
+    let told = put_reply(&mut page, files::to(rt, Standard::Output), answer.refusal);
     let done = files::finish(&page, told);
     if answer.refusal != 0 {
         printing::tell_refusal(rt, answer.refusal);
@@ -121,7 +121,14 @@ fn put_shown(
 // Answers such a call, and tells whether the answer could not be written.
 fn show(rt: &HostRuntime, market: Market, line: &[u8], call: Call) -> bool {
     let mut page = io::large_buffer();
-    let told = put_shown(rt, &mut page, files::to_output(rt), market, line, call);
+    let told = put_shown(
+        rt,
+        &mut page,
+        files::to(rt, Standard::Output),
+        market,
+        line,
+        call,
+    );
     let done = files::finish(&page, told);
     if let Call::NoCall { fault } = call {
         tell_fault(rt, fault);
@@ -131,7 +138,7 @@ fn show(rt: &HostRuntime, market: Market, line: &[u8], call: Call) -> bool {
 
 pub(crate) fn too_long(rt: &HostRuntime, market: Market) -> After {
     let mut page = io::buffer();
-    let told = put_no_call(&mut page, files::to_output(rt));
+    let told = put_no_call(&mut page, files::to(rt, Standard::Output));
     let done = files::finish(&page, told);
     complain(rt, b"line: more than 4096 bytes");
     After {

@@ -17,5 +17,5 @@ pub use messages::{complain, complain_of, fail, message_of};
 pub use reading::{Got, fill, is_dash, read};
 pub use reasons::tell;
 pub use room::{settlement_bytes, ticket_bytes};
-pub use streams::{Stream, fill_in, finish, flush, put, put_number, to_errors, to_output};
+pub use streams::{Standard, Stream, fill_in, finish, flush, put, put_number, to};
 pub use writing::{write, write_named};

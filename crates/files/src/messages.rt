@@ -1,6 +1,6 @@
 // Messages, on standard error. Each is a line that begins with `exchange: `.
 use crate::reasons::tell;
-use crate::streams::{Stream, flush, put, to_errors};
+use crate::streams::{Standard, Stream, flush, put, to};
 use std::io::Error;
 
 // Room for a name and more.
@@ -10,7 +10,7 @@ fn room() -> [u8; 8192] {
 
 // Puts how a message begins.
 pub fn message_of(rt: &HostRuntime, page: &mut [u8], name: &[u8]) -> Stream {
-    let begun = put(page, to_errors(rt), b"exchange: ");
+    let begun = put(page, to(rt, Standard::Error), b"exchange: ");
     put(page, begun, name)
 }
 

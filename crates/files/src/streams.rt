@@ -2,47 +2,48 @@
 // done. No contract can say what the system writes.
 use crate::reasons::tell;
 
+// The two streams that a text goes to.
+#[derive(Clone, Copy)]
+pub enum Standard {
+    Output,
+    Error,
+}
+
 // Where a text goes, how many bytes of the page are filled, and whether a write has failed: then nothing more is written.
 #[derive(Clone, Copy)]
 pub struct Stream {
     rt: HostRuntime,
-    to_errors: bool,
+    pub standard: Standard,
     pub filled: usize,
     pub failed: bool,
 }
 
-// The text that begins on an empty page, for standard output.
-pub fn to_output(rt: &HostRuntime) -> Stream {
+// The text that begins on an empty page.
+pub fn to(rt: &HostRuntime, standard: Standard) -> Stream {
     Stream {
         rt: *rt,
-        to_errors: false,
-        filled: 0,
-        failed: false,
-    }
-}
-
-// The same for standard error.
-pub fn to_errors(rt: &HostRuntime) -> Stream {
-    Stream {
-        rt: *rt,
-        to_errors: true,
+        standard,
         filled: 0,
         failed: false,
     }
 }
 
 // A write that fails is told on standard error, once, since a text that was cut short looks whole.
-fn written(stream: Stream, words: &[u8]) -> bool {
-    let rt = stream.rt;
-    if stream.to_errors {
-        return rt.stderr().write_all(words).is_ok();
-    }
+fn written_out(rt: &HostRuntime, words: &[u8]) -> bool {
     match rt.stdout().write_all(words) {
         Ok(()) => true,
         Err(error) => {
-            tell(&rt, b"exchange: standard output", error);
+            tell(rt, b"exchange: standard output", error);
             false
         }
+    }
+}
+
+fn written(stream: Stream, words: &[u8]) -> bool {
+    let rt = stream.rt;
+    match stream.standard {
+        Standard::Output => written_out(&rt, words),
+        Standard::Error => rt.stderr().write_all(words).is_ok(),
     }
 }
 
