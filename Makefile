@@ -118,7 +118,7 @@ quick-test: all
 	tests/install.sh
 
 test:
-	rt ci
+	.ci/run
 	$(MAKE) quick-test
 
 clean:

@@ -2,10 +2,10 @@
  * The hours exchange for C and C++: tickets, settlements, worths, accounts, sheets,
  * weekly windows, markets that are held open, and the words of refusals and verdicts.
  *
- * The functions stand in the archive that `rt staticlib exchange_c` proves and
- * writes, target/staticlib/libexchange_c.a:
+ * The functions stand in the archive that `rt lib` in crates/exchange_c proves and
+ * writes, crates/exchange_c/out/libexchange_c.a:
  *
- *     cc -std=c11 -Iinclude mine.c target/staticlib/libexchange_c.a
+ *     cc -std=c11 -Iinclude mine.c crates/exchange_c/out/libexchange_c.a
  *
  * The archive is for x86-64 Linux. It is position independent, so it can be
  * linked into a shared object too. Of the C library it uses memcpy and memset.

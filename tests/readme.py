@@ -73,8 +73,8 @@ def matches(printed, expected):
 
 
 def copied(folder):
-    """A copy of what is kept of this folder, with an empty target."""
-    shutil.copytree(ROOT, folder, ignore=shutil.ignore_patterns("target", ".git", "__pycache__"), symlinks=True)
+    """A copy of what is kept of this folder, without what rt and make left, and with an empty target."""
+    shutil.copytree(ROOT, folder, ignore=shutil.ignore_patterns("target", "out", ".git", "__pycache__"), symlinks=True)
     (folder / "target").mkdir()
 
 
