@@ -48,7 +48,7 @@ command := $(BUILT)/exchange
 all: $(library) $(shared) $(BUILT)/libhours_exchange.so $(command) $(BUILT)/hours_exchange.pc
 
 define announce
-@[ -d crates/exchange/out ] || echo "make: everything is proved first; from nothing that takes some fifteen minutes on two cores, with a line for each function"
+@[ -d crates/exchange_c/out ] || echo "make: everything is proved first; from nothing that takes some fifteen minutes on two cores, with a line for each function"
 @mkdir -p $(BUILT)
 endef
 

@@ -3,14 +3,12 @@
 #![tactic(auto)]
 
 use std::fs::{File, Permissions};
+use std::io::Result;
 use std::os::unix::fs::{MetadataExt, PermissionsExt, fchown};
 
-// Whether it is a file, and not a device or a pipe.
-pub fn is_file(file: &File) -> bool {
-    match file.metadata() {
-        Ok(status) => status.is_file(),
-        Err(_) => false,
-    }
+// Whether it is a file, and not a device or a pipe. Fails where the system does not say.
+pub fn is_file(file: &File) -> Result<bool> {
+    Ok(file.metadata()?.is_file())
 }
 
 // The bits of a mode that are rights, twelve of them; those above tell the kinds of files apart.

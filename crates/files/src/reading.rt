@@ -1,4 +1,4 @@
-// Reading a file, or standard input where it is named `-`. What fails is told on standard error, with the system's reason.
+// Reading a file, or standard input where it is named `-`. What fails in `read` is told on standard error, with the system's reason.
 use crate::messages::fail;
 use crate::names::name_of;
 use std::fs::File;

@@ -128,7 +128,7 @@ fn write_through(mut device: File, bytes: &[u8]) -> Result<bool> {
 }
 
 fn write_over(rt: &HostRuntime, name: &[u8], old: File, bytes: &[u8]) -> Result<bool> {
-    if file_modes::is_file(&old) {
+    if file_modes::is_file(&old)? {
         return replace(rt, name, Some(&old), bytes);
     }
     write_through(old, bytes)
