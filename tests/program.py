@@ -612,6 +612,16 @@ class Streams(Tries):
                 self.assertEqual(len(done.stderr.splitlines()), 1, done.stderr)
                 self.assertRegex(done.stderr.decode(), "^exchange: .*Bad file descriptor$")
 
+    def test_a_reader_that_goes_away(self):
+        """A pipe that nobody reads is a failed write, and not the program's end by a signal."""
+        for words in [("sheet", WEEK), ("mark", WEEK, SOUND), ("--version",), ("settle", WEEK, "-")]:
+            behind, front = os.pipe()
+            os.close(behind)
+            with self.subTest(words=words), os.fdopen(front, "wb") as pipe:
+                status, _, errors = run(*words, stdout=pipe)
+                self.assertEqual((status, len(errors)), (2, 1), errors)
+                self.assertRegex(errors[0], "^exchange: .*: Broken pipe$")
+
     def test_a_file_is_not_written_over_when_its_output_is_closed(self):
         """With standard output closed a file that is opened may get its number: no answer may end up in it."""
         out = self.file("out", b"old")
@@ -676,6 +686,21 @@ class Files(Tries):
         link.symlink_to("loop")
         self.fails("settle", WEEK, link, says=f"^exchange: {re.escape(str(link))}: Too many levels of symbolic links$")
         self.assertTrue(link.is_symlink())
+
+    def test_a_name_that_is_not_utf8(self):
+        """It names no file that could be read or written, and neither does the text of a link to be written through."""
+        name = os.fsencode(self.room) + b"/\xff"
+        path = Path(os.fsdecode(name))
+        path.write_bytes(WEEK.read_bytes())
+        for words in [("sheet", path), ("settle", WEEK, path)]:
+            with self.subTest(words=words):
+                done = subprocess.run([PROGRAM, *map(os.fsencode, words)], capture_output=True, timeout=60)
+                self.assertEqual((done.returncode, done.stdout, done.stderr), (2, b"", b"exchange: " + name + b": invalid filename\n"))
+        link = self.room / "link"
+        link.symlink_to(path)
+        self.assertEqual(self.done("sheet", link), self.done("sheet", WEEK))
+        self.fails("settle", WEEK, link, says=f"^exchange: {re.escape(str(link))}: invalid filename$")
+        self.assertEqual(path.read_bytes(), WEEK.read_bytes())
 
     def test_a_pipe_is_written_to_and_stays(self):
         pipe = self.room / "pipe"
