@@ -25,6 +25,7 @@ use meanings::{byte_of, meaning_of};
 use replies::reply_number;
 
 // `reader::unpack`: the count of a ticket's numbers, or a refusal.
+#[tactic(auto, using(crate::proofs::ReplyLaws::unpack_small))]
 #[unsafe(no_mangle)]
 pub extern "C" fn exchange_unpack(ticket: &[u8], list: &mut [u16]) -> u32
     ensures value { result ≡ reply_number (reply (length list.old) (unpacked ticket.now)) }
@@ -34,6 +35,7 @@ pub extern "C" fn exchange_unpack(ticket: &[u8], list: &mut [u16]) -> u32
 }
 
 // `reader::pack`: the length of a ticket in bytes, or a refusal.
+#[tactic(auto, using(crate::proofs::ReplyLaws::pack_small))]
 #[unsafe(no_mangle)]
 pub extern "C" fn exchange_pack(list: &[u16], ticket: &mut [u8]) -> u32
     ensures value { result ≡ reply_number (reply (length ticket.old) (packed list.now)) }
@@ -43,6 +45,7 @@ pub extern "C" fn exchange_pack(list: &[u16], ticket: &mut [u8]) -> u32
 }
 
 // `reader::read_settlement`: the count of a settlement's numbers, or a refusal; 15 first where growers or pilots are more than 16.
+#[tactic(auto, using(crate::proofs::SettlementLaws::read_small))]
 #[unsafe(no_mangle)]
 pub extern "C" fn exchange_read_settlement(
     settlement: &[u8],
@@ -57,6 +60,7 @@ pub extern "C" fn exchange_read_settlement(
 }
 
 // `reader::write_settlement`: the length of a settlement in bytes, or a refusal; 15 first where growers or pilots are more than 16.
+#[tactic(auto, using(crate::proofs::SettlementLaws::write_small))]
 #[unsafe(no_mangle)]
 pub extern "C" fn exchange_write_settlement(
     list: &[u16],
@@ -71,6 +75,7 @@ pub extern "C" fn exchange_write_settlement(
 }
 
 // `settler::settle`: the length of a sound settlement in bytes, or a refusal.
+#[tactic(auto, using(crate::proofs::ReplyLaws::settle_small))]
 #[unsafe(no_mangle)]
 pub extern "C" fn exchange_settle(ticket: &[u8], settlement: &mut [u8]) -> u32
     ensures { NumberOf (Settled ticket.now settlement.old settlement.new) result }
@@ -79,6 +84,7 @@ pub extern "C" fn exchange_settle(ticket: &[u8], settlement: &mut [u8]) -> u32
 }
 
 // `sheets::sheet`: the length of a ticket's sheet in bytes, or the refusal of a buffer that is too short.
+#[tactic(auto, using(crate::proofs::ReplyLaws::sheet_small))]
 #[unsafe(no_mangle)]
 pub extern "C" fn exchange_sheet(ticket: &[u8], text: &mut [u8]) -> u32
     ensures { NumberOf (Sheeted (unpacked ticket.now) text.old text.new) result }
@@ -112,6 +118,7 @@ pub extern "C" fn exchange_account(ticket: &[u8], settlement: &[u8], list: &mut 
 }
 
 // `windows::narrow`: the length of the new ticket in bytes, or a refusal; 10, the buffer is too short, comes last.
+#[tactic(auto, using(crate::proofs::WindowLaws::windows_small))]
 #[unsafe(no_mangle)]
 pub extern "C" fn exchange_windows(ticket: &[u8], windows: &[u16], new_ticket: &mut [u8]) -> u32
     ensures value { result ≡ reply_number (reply (length new_ticket.old) (new_ticket_of ticket.now windows.now)) }
@@ -137,6 +144,7 @@ pub extern "C" fn exchange_call(market: &mut [u16], calls: &[u16]) -> u32
 }
 
 // `market_lists::write_settlement`: the length of the settlement of a market in bytes, or a refusal.
+#[tactic(auto, using(crate::proofs::MarketLaws::settlement_small))]
 #[unsafe(no_mangle)]
 pub extern "C" fn exchange_market_settlement(market: &[u16], settlement: &mut [u8]) -> u32
     ensures { NumberOf (WrittenFrom market.now settlement.old settlement.new) result }
