@@ -613,14 +613,13 @@ class Streams(Tries):
                 self.assertRegex(done.stderr.decode(), "^exchange: .*Bad file descriptor$")
 
     def test_a_reader_that_goes_away(self):
-        """A pipe that nobody reads is a failed write, and not the program's end by a signal."""
+        """A pipe that nobody reads is a failed write, of which nothing is said."""
         for words in [("sheet", WEEK), ("mark", WEEK, SOUND), ("--version",), ("settle", WEEK, "-")]:
             behind, front = os.pipe()
             os.close(behind)
             with self.subTest(words=words), os.fdopen(front, "wb") as pipe:
                 status, _, errors = run(*words, stdout=pipe)
-                self.assertEqual((status, len(errors)), (2, 1), errors)
-                self.assertRegex(errors[0], "^exchange: .*: Broken pipe$")
+                self.assertEqual((status, errors), (2, []))
 
     def test_a_file_is_not_written_over_when_its_output_is_closed(self):
         """With standard output closed a file that is opened may get its number: no answer may end up in it."""

@@ -1,5 +1,5 @@
 // Messages, on standard error. Each is a line that begins with `exchange: `.
-use crate::reasons::tell;
+use crate::reasons::{is_unread, tell};
 use crate::streams::{Standard, Stream, flush, put, to};
 use std::io::Error;
 
@@ -34,6 +34,9 @@ pub fn complain_of(rt: &HostRuntime, name: &[u8], words: &[u8]) {
 
 // Which file a call of the system failed on, and the system's reason.
 pub fn fail(rt: &HostRuntime, name: &[u8], error: Error) {
+    if is_unread(&error) {
+        return;
+    }
     let mut page = room();
     let begun = message_of(rt, &mut page, name);
     tell(rt, ascii::front(&page, begun.filled), error);

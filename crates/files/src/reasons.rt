@@ -1,7 +1,7 @@
 // The system's reasons, told on standard error.
 use std::fmt;
 use std::fmt::Write;
-use std::io::Error;
+use std::io::{Error, ErrorKind};
 
 // The text of an error, as it is written into it.
 #[derive(Drop)]
@@ -35,6 +35,11 @@ fn reason_in(error: Error, reason: &Reason) -> &[u8] {
         return ascii::front(text, before_bracket(text));
     }
     text
+}
+
+// Whether nobody reads any more what was to be written. The reader wanted no more of it, so that is not told.
+pub(crate) fn is_unread(error: &Error) -> bool {
+    error.kind() == ErrorKind::BrokenPipe
 }
 
 fn say(rt: &HostRuntime, words: &[u8]) {

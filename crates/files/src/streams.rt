@@ -1,6 +1,6 @@
 // Text for standard output and standard error. It is gathered in a lent buffer, the page, and written when the page is full or the text is
 // done. No contract can say what the system writes.
-use crate::reasons::tell;
+use crate::reasons::{is_unread, tell};
 
 // The two streams that a text goes to.
 #[derive(Clone, Copy)]
@@ -33,7 +33,9 @@ fn written_out(rt: &HostRuntime, words: &[u8]) -> bool {
     match rt.stdout().write_all(words) {
         Ok(()) => true,
         Err(error) => {
-            tell(rt, b"exchange: standard output", error);
+            if !is_unread(&error) {
+                tell(rt, b"exchange: standard output", error);
+            }
             false
         }
     }
