@@ -729,6 +729,17 @@ class Files(Tries):
         self.done("settle", WEEK, null)
         self.assertTrue(stat.S_ISCHR(null.stat().st_mode))
 
+    def test_what_the_system_does_not_tell_is_left(self):
+        """By strace where it is there: a name of which the system does not say whether it is a file's or a device's."""
+        if shutil.which("strace") is None:
+            self.skipTest("no strace")
+        out = self.file("out", b"old")
+        command = ["strace", "-qq", "-o", "/dev/null", "-e", "inject=statx:error=EPERM", PROGRAM, "settle", str(WEEK), str(out)]
+        done = subprocess.run(command, capture_output=True, text=True, timeout=60)
+        self.assertEqual((done.returncode, done.stdout, done.stderr), (2, "", f"exchange: {out}: Operation not permitted\n"))
+        self.assertEqual(out.read_bytes(), b"old")
+        self.assertEqual(list(self.room.iterdir()), [out])
+
     def test_a_folder_is_not_replaced(self):
         folder = self.room / "folder"
         folder.mkdir()

@@ -9,21 +9,12 @@ const NO_VALID_ARGUMENT: i32 = 22;
 
 const NAME_TOO_LONG: i32 = 36;
 
-fn has_zero(name: &[u8]) -> bool {
-    for k in 0..name.len() {
-        if name[k] == 0 {
-            return true;
-        }
-    }
-    false
-}
-
 // A name as text. The library opens no file whose name is not UTF-8.
 pub(crate) fn name_of(name: &[u8]) -> Result<&str> {
     if MOST_BYTES <= name.len() {
         return Err(Error::from_raw_os_error(NAME_TOO_LONG));
     }
-    if has_zero(name) {
+    if name.contains(&0) {
         return Err(Error::from_raw_os_error(NO_VALID_ARGUMENT));
     }
     match std::str::from_utf8(name) {

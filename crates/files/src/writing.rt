@@ -8,9 +8,6 @@ use std::fs::{File, OpenOptions};
 use std::io::{Error, ErrorKind, Result, Write};
 use std::os::unix::fs::OpenOptionsExt;
 
-// The system's number for a name that is free.
-const NO_SUCH_FILE: i32 = 2;
-
 // How often a name is drawn for a new file, where others have taken the names before.
 const MOST_DRAWS: usize = 100;
 
@@ -42,7 +39,7 @@ struct NewFile {
 
 // A new file beside another, under a name that nobody has, which takes the place of what the path held.
 fn new_beside(rt: &HostRuntime, target: &[u8], path: &mut [u8], rights: u32) -> Result<NewFile> {
-    for k in 0..MOST_DRAWS {
+    for _ in 0..MOST_DRAWS {
         let length = beside(rt, target, path)?;
         match create(rt, ascii::front(path, length), rights) {
             Ok(file) => return Ok(NewFile { file, length }),
@@ -142,9 +139,7 @@ fn open_append(rt: &HostRuntime, name: &[u8]) -> Result<File> {
 fn write_to(rt: &HostRuntime, name: &[u8], bytes: &[u8]) -> Result<bool> {
     match open_append(rt, name) {
         Ok(old) => write_over(rt, name, old, bytes),
-        Err(error) if error.raw_os_error() == Some(NO_SUCH_FILE) => {
-            replace(rt, name, None, bytes)
-        }
+        Err(error) if error.kind() == ErrorKind::NotFound => replace(rt, name, None, bytes),
         Err(error) => Err(error),
     }
 }
