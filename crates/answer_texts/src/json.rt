@@ -2,7 +2,7 @@
 use files::{Stream, fill_in, put};
 use market::Deal;
 use numbers::entry;
-use tables::Quantity;
+use tables::{Quantity, Side};
 use verdicts::Values;
 
 fn digit(value: u8) -> u8 {
@@ -257,14 +257,14 @@ fn put_parties(page: &mut [u8], stream: Stream, list: &[u16]) -> Stream {
     let hours = put_hours(
         page,
         growers,
-        tables::grower_hours(list),
+        tables::hours(list, Side::Growers),
         tables::growers(list),
     );
     let pilots = put(page, hours, b",\"pilot_hours\":[");
     put_hours(
         page,
         pilots,
-        tables::pilot_hours(list),
+        tables::hours(list, Side::Pilots),
         tables::pilots(list),
     )
 }

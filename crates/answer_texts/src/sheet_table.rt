@@ -4,7 +4,7 @@ use crate::names::{column, put_left, put_party, put_right};
 use crate::sheet::{flies, grower_share};
 use files::{Stream, put};
 use numbers::{entry, index};
-use tables::Quantity;
+use tables::{Quantity, Side};
 
 // How wide the columns of growers and pilots are, with the blanks after them.
 #[derive(Clone, Copy)]
@@ -213,7 +213,7 @@ fn amount(account: [u32; 48], place: usize) -> u64 {
 fn of_grower(terms: &[u16], agreed: &[u16], account: [u32; 48], i: u16) -> Figures {
     Figures {
         flown: grower_flies(agreed, i),
-        own: entry(terms, tables::grower_place(i)) as u64,
+        own: entry(terms, tables::hours_place(terms, Side::Growers, i)) as u64,
         euros: amount(account, index(i)),
     }
 }
@@ -221,7 +221,7 @@ fn of_grower(terms: &[u16], agreed: &[u16], account: [u32; 48], i: u16) -> Figur
 fn of_pilot(terms: &[u16], agreed: &[u16], account: [u32; 48], j: u16) -> Figures {
     Figures {
         flown: pilot_flies(agreed, j),
-        own: entry(terms, tables::pilot_place(terms, j)) as u64,
+        own: entry(terms, tables::hours_place(terms, Side::Pilots, j)) as u64,
         euros: amount(account, plus(tables::growers(terms), 2 * index(j))),
     }
 }

@@ -1,65 +1,72 @@
--- The refusal numbers of docs/FORMAT.md. The code has the same in src/refusals.rt, and is proved to.
-use Rattle.std.specs.Prelude.{Bool, true, false, ℕ, zero, suc}
+-- The refusals of docs/FORMAT.md and their numbers. The code has the same in src/refusals.rt, and is proved to.
+use Rattle.std.specs.Prelude.{Bool, true, false, ℕ, Result, Ok, Err}
 use Rattle.checks.specs.declared.refusals.Document.{Document}
+use Rattle.checks.specs.declared.refusals.Refusal.{Refusal}
 use Rattle.checks.specs.declared.refusals.Refusals.{Refusals}
 
--- 1, 2, 3: no number can be read. 4: kind not 1. 5: n or m out of range. 9: something is left.
-abbrev pub ticket_refusals : Refusals
-ticket_refusals = record { ends = 1; long = 2; padded = 3; kind = 4; parties = 5; left = 9 }
+abbrev pub number_of : Refusal → ℕ
+number_of Refusal.Ends = 1
+number_of Refusal.TooLong = 2
+number_of Refusal.Padded = 3
+number_of Refusal.WrongKind = 4
+number_of Refusal.PartiesOutOfRange = 5
+number_of Refusal.HoursAboveLimit = 6
+number_of Refusal.AboveLimit = 7
+number_of Refusal.AmountWithoutCap = 8
+number_of Refusal.NumbersLeft = 9
+number_of Refusal.NoRoom = 10
+number_of Refusal.SettlementEnds = 11
+number_of Refusal.SettlementTooLong = 12
+number_of Refusal.SettlementPadded = 13
+number_of Refusal.SettlementWrongKind = 14
+number_of Refusal.OtherParties = 15
+number_of Refusal.SettlementNumbersLeft = 16
+number_of Refusal.NotSound = 17
+number_of Refusal.CapWithoutHours = 18
+number_of Refusal.NoParty = 19
+number_of Refusal.AgainstLimits = 20
+number_of Refusal.NotWindows = 21
+number_of Refusal.BadWindow = 22
 
--- 11, 12, 13: no number can be read. 14: kind not 2. 15: n or m unlike the ticket's. 16: something is left.
+abbrev pub ticket_refusals : Refusals
+ticket_refusals = record {
+  ends = Refusal.Ends;
+  long = Refusal.TooLong;
+  padded = Refusal.Padded;
+  kind = Refusal.WrongKind;
+  parties = Refusal.PartiesOutOfRange;
+  left = Refusal.NumbersLeft;
+}
+
 abbrev pub settlement_refusals : Refusals
-settlement_refusals = record { ends = 11; long = 12; padded = 13; kind = 14; parties = 15; left = 16 }
+settlement_refusals = record {
+  ends = Refusal.SettlementEnds;
+  long = Refusal.SettlementTooLong;
+  padded = Refusal.SettlementPadded;
+  kind = Refusal.SettlementWrongKind;
+  parties = Refusal.OtherParties;
+  left = Refusal.SettlementNumbersLeft;
+}
 
 abbrev pub refusals_of : Document → Refusals
 refusals_of Document.Ticket = ticket_refusals
 refusals_of (Document.Settlement n m) = settlement_refusals
 
--- 6: hours above 60.
-abbrev pub hours_above_limit : ℕ
-hours_above_limit = 6
-
--- 7: a cap above 60 or an amount above 500.
-abbrev pub above_limit : ℕ
-above_limit = 7
-
--- 8: an amount in a deal of cap 0.
-abbrev pub amount_without_cap : ℕ
-amount_without_cap = 8
-
--- 18: a cap above 0 in a deal of somebody without hours.
-abbrev pub cap_without_hours : ℕ
-cap_without_hours = 18
-
--- 10: the lent list or buffer is too short.
-abbrev pub no_room : ℕ
-no_room = 10
-
--- 17: the settlement is read, but not sound.
-abbrev pub not_sound : ℕ
-not_sound = 17
-
--- 19, 20: a call names nobody of the market, or a number that no ticket may have there.
-abbrev pub no_party : ℕ
-no_party = 19
-
-abbrev pub against_limits : ℕ
-against_limits = 20
-
--- 21, 22: numbers are no list of windows, which ends early, has too many windows of a party or numbers left; a window is empty, past the
--- week or before the last has closed.
-abbrev pub not_windows : ℕ
-not_windows = 21
-
-abbrev pub bad_window : ℕ
-bad_window = 22
+-- What is looked at passes, or is refused.
+abbrev pub Checked : Type 0
+Checked = Result Unit Refusal
 
 -- The refusal w unless the test holds.
-abbrev pub must : Bool → ℕ → ℕ
-must true w = 0
-must false w = w
+abbrev pub must : Bool → Refusal → Checked
+must true w = Ok tt
+must false w = Err w
 
 -- The first of two refusals that is one.
-abbrev pub first : ℕ → ℕ → ℕ
-first zero w = w
-first (suc v) w = suc v
+abbrev pub first : Checked → Checked → Checked
+first (Ok _) w = w
+first (Err v) w = Err v
+
+-- What comes of it where nothing is refused.
+abbrev pub giving : {A : Type 0} → Checked → A → Result A Refusal
+giving (Ok _) a = Ok a
+giving (Err w) a = Err w

@@ -1,6 +1,6 @@
-// The refusal numbers, which specs/Refusals.antt has too, and which document is read.
+// Why something is refused, with the numbers that specs/Refusals.antt has too, and which document is read.
 ghost use Rattle.std.specs.Prelude.{◌≡◌};
-ghost use Rattle.checks.specs.Refusals.{refusals_of, must, first};
+ghost use Rattle.checks.specs.Refusals.{number_of, refusals_of, must};
 
 // A ticket, or the settlement of a ticket with so many growers and pilots.
 #[derive(Clone, Copy)]
@@ -9,76 +9,105 @@ pub enum Document {
     Settlement { growers: usize, pilots: usize },
 }
 
-// The refusals that a document has numbers of its own for.
-#[derive(Clone, Copy)]
-pub struct Refusals {
-    pub ends: u8, // the source ends inside or before a number
-    pub long: u8, // a number's second byte has its top bit set
-    pub padded: u8, // its second byte is 00
-    pub kind: u8, // another kind of document
-    pub parties: u8, // growers or pilots out of range, or unlike the ticket's
-    pub left: u8, // something is left after the last number
+// Why something is refused. Its number in docs/FORMAT.md is `number_of`.
+#[derive(Clone, Copy, Debug, PartialEq, Eq)]
+pub enum Refusal {
+    Ends, // 1: the bytes end inside or before a number
+    TooLong, // 2: a number's second byte has its top bit set
+    Padded, // 3: its second byte is 00
+    WrongKind, // 4: kind not 1
+    PartiesOutOfRange, // 5: growers or pilots not 1 to 16
+    HoursAboveLimit, // 6: hours above 60
+    AboveLimit, // 7: a cap above 60 or an amount above 500
+    AmountWithoutCap, // 8: an amount in a deal of cap 0
+    NumbersLeft, // 9: something is left after the last number
+    NoRoom, // 10: the lent list or buffer is too short
+    SettlementEnds, // 11: of a settlement: as 1
+    SettlementTooLong, // 12: as 2
+    SettlementPadded, // 13: as 3
+    SettlementWrongKind, // 14: kind not 2
+    OtherParties, // 15: growers or pilots unlike the ticket's
+    SettlementNumbersLeft, // 16: as 9
+    NotSound, // 17: the settlement is not sound
+    CapWithoutHours, // 18: a cap above 0 in a deal of somebody without hours
+    NoParty, // 19: a call names nobody of the market
+    AgainstLimits, // 20: a number that no ticket may have there
+    NotWindows, // 21: numbers are no list of windows
+    BadWindow, // 22: a window is empty, past the week or out of order
 }
 
-// The refusals of a ticket's ranges, of a lent buffer that is too short, of a settlement that is not sound, of calls, and of
-// windows.
-pub(crate) const HOURS_ABOVE_LIMIT: u8 = 6;
+impl From<Refusal> for u8 {
+    ghost from_gives = { λ why n. n ≡ number_of why };
 
-pub(crate) const ABOVE_LIMIT: u8 = 7;
+    fn from(why: Refusal) -> u8 {
+        match why {
+            Refusal::Ends => 1,
+            Refusal::TooLong => 2,
+            Refusal::Padded => 3,
+            Refusal::WrongKind => 4,
+            Refusal::PartiesOutOfRange => 5,
+            Refusal::HoursAboveLimit => 6,
+            Refusal::AboveLimit => 7,
+            Refusal::AmountWithoutCap => 8,
+            Refusal::NumbersLeft => 9,
+            Refusal::NoRoom => 10,
+            Refusal::SettlementEnds => 11,
+            Refusal::SettlementTooLong => 12,
+            Refusal::SettlementPadded => 13,
+            Refusal::SettlementWrongKind => 14,
+            Refusal::OtherParties => 15,
+            Refusal::SettlementNumbersLeft => 16,
+            Refusal::NotSound => 17,
+            Refusal::CapWithoutHours => 18,
+            Refusal::NoParty => 19,
+            Refusal::AgainstLimits => 20,
+            Refusal::NotWindows => 21,
+            Refusal::BadWindow => 22,
+        }
+    }
+}
 
-pub(crate) const AMOUNT_WITHOUT_CAP: u8 = 8;
+// The refusals that a document has cases of its own for.
+#[derive(Clone, Copy)]
+pub struct Refusals {
+    pub ends: Refusal,
+    pub long: Refusal,
+    pub padded: Refusal,
+    pub kind: Refusal,
+    pub parties: Refusal,
+    pub left: Refusal,
+}
 
-pub(crate) const CAP_WITHOUT_HOURS: u8 = 18;
-
-pub const NO_ROOM: u8 = 10;
-
-pub const NOT_SOUND: u8 = 17;
-
-pub const NO_PARTY: u8 = 19;
-
-pub const AGAINST_LIMITS: u8 = 20;
-
-pub const NOT_WINDOWS: u8 = 21;
-
-pub const BAD_WINDOW: u8 = 22;
-
-// The numbers of a document: 1 to 5 and 9 for a ticket, 11 to 16 for a settlement.
+// The cases of a document: 1 to 5 and 9 for a ticket, 11 to 16 for a settlement.
 pub fn refusals_of(document: Document) -> Refusals
     ensures { result ≡ refusals_of document }
 {
     match document {
         Document::Ticket => Refusals {
-            ends: 1,
-            long: 2,
-            padded: 3,
-            kind: 4,
-            parties: 5,
-            left: 9,
+            ends: Refusal::Ends,
+            long: Refusal::TooLong,
+            padded: Refusal::Padded,
+            kind: Refusal::WrongKind,
+            parties: Refusal::PartiesOutOfRange,
+            left: Refusal::NumbersLeft,
         },
         Document::Settlement {
             growers: _,
             pilots: _,
         } => Refusals {
-            ends: 11,
-            long: 12,
-            padded: 13,
-            kind: 14,
-            parties: 15,
-            left: 16,
+            ends: Refusal::SettlementEnds,
+            long: Refusal::SettlementTooLong,
+            padded: Refusal::SettlementPadded,
+            kind: Refusal::SettlementWrongKind,
+            parties: Refusal::OtherParties,
+            left: Refusal::SettlementNumbersLeft,
         },
     }
 }
 
-// No refusal if a test holds.
-pub fn must(ok: bool, why: u8) -> u8
+// A test that must hold.
+pub fn must(ok: bool, why: Refusal) -> Result<(), Refusal>
     ensures { result ≡ must ok why }
 {
-    if ok { 0 } else { why }
-}
-
-// The first of two refusals that is one.
-pub fn first(a: u8, b: u8) -> u8
-    ensures { result ≡ first a b }
-{
-    if a == 0 { b } else { a }
+    if ok { Ok(()) } else { Err(why) }
 }

@@ -2,10 +2,7 @@
 ghost use Rattle.std.specs.Prelude.{◌≡◌};
 ghost use Rattle.checks.specs.TicketFaults.{party_fault, zero_cap_fault, amount_fault, no_hours_fault, cap_fault, fault_of, pair_passes};
 
-use crate::refusals::{
-    ABOVE_LIMIT, AMOUNT_WITHOUT_CAP, CAP_WITHOUT_HOURS, Document, HOURS_ABOVE_LIMIT, first, must,
-    refusals_of,
-};
+use crate::refusals::{Document, Refusal, must, refusals_of};
 
 // What stands at a place of a ticket.
 #[derive(Clone, Copy)]
@@ -22,53 +19,53 @@ pub enum Field {
 }
 
 // Growers and pilots are 1 to 16.
-fn party_fault(why: u8, x: usize) -> u8
+fn party_fault(why: Refusal, x: usize) -> Result<(), Refusal>
     ensures { result ≡ party_fault why x }
 {
-    if 1 <= x { must(x <= 16, why) } else { why }
+    if 1 <= x { must(x <= 16, why) } else { Err(why) }
 }
 
 // In a deal of cap 0 an amount is 0.
-fn zero_cap_fault(cap: usize, x: usize) -> u8
+fn zero_cap_fault(cap: usize, x: usize) -> Result<(), Refusal>
     ensures { result ≡ zero_cap_fault cap x }
 {
     if cap == 0 {
-        must(x == 0, AMOUNT_WITHOUT_CAP)
+        must(x == 0, Refusal::AmountWithoutCap)
     } else {
-        0
+        Ok(())
     }
 }
 
 // The limit is tested before the cap.
-fn amount_fault(cap: usize, x: usize) -> u8
+fn amount_fault(cap: usize, x: usize) -> Result<(), Refusal>
     ensures { result ≡ amount_fault cap x }
 {
-    first(must(x <= 500, ABOVE_LIMIT), zero_cap_fault(cap, x))
+    must(x <= 500, Refusal::AboveLimit)?;
+    zero_cap_fault(cap, x)
 }
 
 // In a deal of somebody without hours a cap is 0.
-fn no_hours_fault(none: bool, x: usize) -> u8
+fn no_hours_fault(none: bool, x: usize) -> Result<(), Refusal>
     ensures { result ≡ no_hours_fault none x }
 {
     if none {
-        must(x == 0, CAP_WITHOUT_HOURS)
+        must(x == 0, Refusal::CapWithoutHours)
     } else {
-        0
+        Ok(())
     }
 }
 
 // The limit is tested before the hours.
-fn cap_fault(none: bool, x: usize) -> u8
+fn cap_fault(none: bool, x: usize) -> Result<(), Refusal>
     ensures { result ≡ cap_fault none x }
 {
-    let limit = must(x <= 60, ABOVE_LIMIT);
-    let hours = no_hours_fault(none, x);
-    first(limit, hours)
+    must(x <= 60, Refusal::AboveLimit)?;
+    no_hours_fault(none, x)
 }
 
-// What is wrong with a number in a field; 0 if nothing is. `cap` is the last cap, and `none` says whether somebody of the pair has no
+// What is wrong with a number in a field. `cap` is the last cap, and `none` says whether somebody of the pair has no
 // hours.
-pub fn fault_of(field: Field, cap: usize, none: bool, x: usize) -> u8
+pub fn fault_of(field: Field, cap: usize, none: bool, x: usize) -> Result<(), Refusal>
     ensures { result ≡ fault_of field cap none x }
 {
     let refusals = refusals_of(Document::Ticket);
@@ -76,7 +73,7 @@ pub fn fault_of(field: Field, cap: usize, none: bool, x: usize) -> u8
         Field::Kind => must(x == 1, refusals.kind),
         Field::Growers => party_fault(refusals.parties, x),
         Field::Pilots => party_fault(refusals.parties, x),
-        Field::Hours => must(x <= 60, HOURS_ABOVE_LIMIT),
+        Field::Hours => must(x <= 60, Refusal::HoursAboveLimit),
         Field::TariffCap => cap_fault(none, x),
         Field::TariffGain => amount_fault(cap, x),
         Field::TariffPay => amount_fault(cap, x),
@@ -96,9 +93,9 @@ pub fn pair_passes(
 ) -> bool
     ensures { result ≡ pair_passes none cap gain pay free joint }
 {
-    (cap_fault(none, cap) == 0)
-        & (amount_fault(cap, gain) == 0)
-        & (amount_fault(cap, pay) == 0)
-        & (cap_fault(none, free) == 0)
-        & (amount_fault(free, joint) == 0)
+    cap_fault(none, cap).is_ok()
+        & amount_fault(cap, gain).is_ok()
+        & amount_fault(cap, pay).is_ok()
+        & cap_fault(none, free).is_ok()
+        & amount_fault(free, joint).is_ok()
 }

@@ -45,8 +45,7 @@ fn numbered(s: &[u8]) -> bool
 {
     let mut well = true;
     let mut prior: u8 = 0;
-    for i in 0..s.len() {
-        let b = s[i];
+    for &b in s {
         well = well & follows(prior, b);
         prior = b;
     }

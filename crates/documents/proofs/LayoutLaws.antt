@@ -1,4 +1,5 @@
 -- What both documents have in common: numbers without fault are short, the state after one is known, and the numbers are few.
+use Rattle.std.specs.Prelude.{Ok}
 use mathlib.Core.Path.{◌≡◌, refl}
 use mathlib.Core.List.{List, [], ◌∷◌}
 use Prim.Native.Nat.{ℕ, zero, suc, ◌+◌, ◌*◌, ◌^◌, ◌≤◌, ◌<◌}
@@ -23,7 +24,7 @@ use Rattle.documents.proofs.WalkLaws.{Good}
 use Rattle.documents.proofs.TicketLaws.{ticket_small}
 use Rattle.checks.proofs.FaultLaws.{settlement_passes_lem}
 
-pub number_small : (p : Document) (s : State) (x : ℕ) → fault_in p s x ≡ 0 → x < 128 ^ groups
+pub number_small : (p : Document) (s : State) (x : ℕ) → fault_in p s x ≡ Ok tt → x < 128 ^ groups
 number_small Document.Ticket s x e = ticket_small s x e
 number_small (Document.Settlement n m) s x e = (settlement_passes_lem n m s.place x e).0
 
@@ -48,7 +49,7 @@ known_place (suc zero) s x k h = (record { growers = h; pilots = k.pilots }, ref
 known_place (suc (suc zero)) s x k h = (record { growers = k.growers; pilots = h }, refl)
 known_place (suc (suc (suc p))) s x k h = (record { growers = k.growers; pilots = k.pilots }, refl)
 
-pub known_after : (p : Document) (s : State) (x : ℕ) → Known s → fault_in p s x ≡ 0 →
+pub known_after : (p : Document) (s : State) (x : ℕ) → Known s → fault_in p s x ≡ Ok tt →
     Known (after_in p s x) × ((after_in p s x).place ≡ s.place + 1)
 known_after Document.Ticket s x k e = known_field (field_of s) s x k (ticket_small s x e)
 known_after (Document.Settlement n m) s x k e = known_place s.place s x k (settlement_passes_lem n m s.place x e).0

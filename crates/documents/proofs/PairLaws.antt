@@ -1,4 +1,5 @@
 -- The pairs of an accepted ticket: what their five numbers are, and who is noted to have no hours.
+use Rattle.std.specs.Prelude.{Ok}
 use mathlib.Core.Path.{◌≡◌, refl, ap, ◌∙◌}
 use mathlib.Core.Bool.{Bool, true}
 use mathlib.Core.List.{List, [], ◌∷◌}
@@ -33,11 +34,11 @@ pub record Deal (tariff_cap tariff_gain tariff_pay free_cap free_gain : ℕ) : T
 
 -- No number of a pair has a fault, where `none` says whether somebody of it has no hours.
 pub record Faultless (none : Bool) (a b c d e : ℕ) : Type 0 where
-  pub tariff_cap : cap_fault none a ≡ 0
-  pub tariff_gain : amount_fault a b ≡ 0
-  pub tariff_pay : amount_fault a c ≡ 0
-  pub free_cap : cap_fault none d ≡ 0
-  pub free_gain : amount_fault d e ≡ 0
+  pub tariff_cap : cap_fault none a ≡ Ok tt
+  pub tariff_gain : amount_fault a b ≡ Ok tt
+  pub tariff_pay : amount_fault a c ≡ Ok tt
+  pub free_cap : cap_fault none d ≡ Ok tt
+  pub free_gain : amount_fault d e ≡ Ok tt
 
 deal_faultless : (s : State) (q a b c d e : ℕ) (xs : List ℕ) → s.place ≡ 3 + s.growers + s.pilots + 5 * q →
     Good ticket s (a ∷ b ∷ c ∷ d ∷ e ∷ xs) → Faultless (none_of s.without s.growers s.pilots q) a b c d e

@@ -49,12 +49,12 @@ accepted_settlement n m (k ∷ x ∷ y ∷ xs) a =
     let s₂ = settlement_after s₁ x in
     let px = (settlement_passes_lem n m 1 x g.1.0).1 in
     let py = (settlement_passes_lem n m 2 y g.1.1.0).1 in
-    let ex : x ≡ n = eqb-true x n (must_holds (eqb x n) settlement_refusals.parties (lit< tt) px) in
-    let ey : y ≡ m = eqb-true y m (must_holds (eqb y m) settlement_refusals.parties (lit< tt) py) in
+    let ex : x ≡ n = eqb-true x n (must_holds (eqb x n) settlement_refusals.parties px) in
+    let ey : y ≡ m = eqb-true y m (must_holds (eqb y m) settlement_refusals.parties py) in
     let c : suc (suc (suc (length xs))) ≡ 3 + 3 * (x * y) = a.count in
     record {
       count = rw (← ex, ← ey) c;
-      kind = eqb-true k 2 (must_holds (eqb k 2) settlement_refusals.kind (lit< tt) (settlement_passes_lem n m 0 k g.0).1);
+      kind = eqb-true k 2 (must_holds (eqb k 2) settlement_refusals.kind (settlement_passes_lem n m 0 k g.0).1);
       growers = ex;
       pilots = ey;
       small = good_small n m start (k ∷ x ∷ y ∷ xs) g;

@@ -1,4 +1,5 @@
 -- What is known of an accepted ticket: how many numbers it has, how large they are, and how many bytes they take.
+use Rattle.std.specs.Prelude.{Ok}
 use mathlib.Core.Path.{◌≡◌, refl, ap, ◌∙◌}
 use mathlib.Core.Bool.{Bool, true, false, cond}
 use mathlib.Core.List.{List, [], ◌∷◌}
@@ -14,6 +15,7 @@ use Rattle.checks.specs.declared.ticket.Field.TheVariants.{Kind, Growers, Pilots
 use Rattle.checks.specs.declared.ticket.Field.TheVariants.{FreeGain}
 use Rattle.documents.specs.declared.State.{State}
 use Rattle.checks.specs.Refusals.{ticket_refusals}
+use Rattle.checks.specs.Refusals.{Checked}
 use Rattle.checks.specs.TicketFaults.{amount_fault, fault_of}
 use Rattle.checks.proofs.FaultLaws.{must_holds, party_range, most_of, field_range}
 use Rattle.groups.specs.Groups.{encode, groups, pack}
@@ -42,7 +44,7 @@ pair_place s h =
     (ap (λ (d : ℕ). deal_field (d % 5)) e)
 
 -- A number checked in the field of its place.
-pub checked_in : (s : State) (x why : ℕ) (after : State) (f : Field) → field_of s ≡ f → why ≡ fault_of f s.cap (none_for f s) x →
+pub checked_in : (s : State) (x : ℕ) (why : Checked) (after : State) (f : Field) → field_of s ≡ f → why ≡ fault_of f s.cap (none_for f s) x →
     after ≡ after_of f s x → (why ≡ ticket_fault s x) × (after ≡ ticket_after s x)
 checked_in s x why after f e w a = rw e (w, a)
 
@@ -79,13 +81,13 @@ field_fits TariffPay = (lit< tt, lit≤ tt, lit< tt)
 field_fits FreeCap = (lit< tt, lit≤ tt, lit< tt)
 field_fits FreeGain = (lit< tt, lit≤ tt, lit< tt)
 
-pub ticket_small : (s : State) (x : ℕ) → ticket_fault s x ≡ 0 → x < 128 ^ groups
+pub ticket_small : (s : State) (x : ℕ) → ticket_fault s x ≡ Ok tt → x < 128 ^ groups
 ticket_small s x e =
     let f = field_fits (field_of s) in
     omega (arith, field_range (field_of s) s.cap (none_for (field_of s) s) x e, f.0, pow-le-pow_right {n = 128} (omega arith) f.1)
 
 -- The bytes of one number.
-number_size : (s : State) (x : ℕ) → ticket.fault s x ≡ 0 → length (encode x) ≤ groups_of (field_of s)
+number_size : (s : State) (x : ℕ) → ticket.fault s x ≡ Ok tt → length (encode x) ≤ groups_of (field_of s)
 number_size s x e =
     let f = field_fits (field_of s) in
     encode_short (groups_of (field_of s)) x f.2 (omega (arith, field_range (field_of s) s.cap (none_for (field_of s) s) x e, f.0))
@@ -185,7 +187,7 @@ shape (k ∷ n ∷ m ∷ xs) a =
     let s₁ = ticket.after ticket.start k in
     let s₂ = ticket.after s₁ n in
     record {
-      kind = eqb-true k 1 (must_holds (eqb k 1) ticket_refusals.kind (lit< tt) g.0);
+      kind = eqb-true k 1 (must_holds (eqb k 1) ticket_refusals.kind g.0);
       growers = hn;
       pilots = hm;
       count = omega (arith, a.count);

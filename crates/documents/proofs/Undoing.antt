@@ -1,11 +1,12 @@
 -- Packing and unpacking undo one another, for any form and any number of groups.
+use Rattle.std.specs.Prelude.{Ok}
 use mathlib.Core.Path.{◌≡◌, refl, sym, ap, ◌∙◌, subst}
 use mathlib.Core.List.{List, [], ◌∷◌, ◌++◌, append_assoc, append-nil}
 use Prim.Native.Nat.{ℕ, ◌+◌, ◌^◌, ◌<◌}
 use lib.ListN.{length}
 use lib.Seq.{get_or-append-add}
 use Rattle.groups.specs.Groups.{read_groups, encode, pack, Bytes}
-use Rattle.documents.specs.Walk.{Form, read_head, form, Numbers}
+use Rattle.documents.specs.Walk.{Form, read_head, form}
 use Rattle.documents.specs.Walk.{Gives}
 use Rattle.grid.proofs.Cases.{never}
 use Rattle.groups.proofs.GroupLaws.{encode_reads, read_encodes}
@@ -35,7 +36,7 @@ bytes-given g a (x ∷ xs) b w h =
     let r = bytes-given g h.0 xs b (bytes_after (encode x) h.0 (rw e at w)) h.2 in
     e ∙ ap (λ (c : List ℕ). encode x ++ c) r ∙ sym (append_assoc (encode x) (pack xs) b)
 
-module _ (F : Form) (g : ℕ) (some : 0 < g) (small : (s : F.State) (x : ℕ) → F.fault s x ≡ 0 → x < 128 ^ g) where
+module _ (F : Form) (g : ℕ) (some : 0 < g) (small : (s : F.State) (x : ℕ) → F.fault s x ≡ Ok tt → x < 128 ^ g) where
   pub bytes_give : (s : F.State) (xs b : List ℕ) → Good F s xs → Gives (read_groups g) (pack xs ++ b) xs b
   bytes_give s [] b h = refl
   bytes_give s (x ∷ xs) b h = (
@@ -45,14 +46,14 @@ module _ (F : Form) (g : ℕ) (some : 0 < g) (small : (s : F.State) (x : ℕ) �
   )
 
   -- Bytes that are accepted are the packed form of an accepted list.
-  pub unpacked_packs : (bytes xs : List ℕ) → Bytes bytes → form F (read_groups g) bytes ≡ Numbers xs →
-      (bytes ≡ pack xs) × (form F read_head xs ≡ Numbers xs)
+  pub unpacked_packs : (bytes xs : List ℕ) → Bytes bytes → form F (read_groups g) bytes ≡ Ok xs →
+      (bytes ≡ pack xs) × (form F read_head xs ≡ Ok xs)
   unpacked_packs bytes xs w e =
       let r = form_accepts F (read_groups g) bytes xs e in
       (bytes-given g bytes xs [] w r.1 ∙ append-nil (pack xs), accepts_form F read_head xs xs r.0 (head_whole xs))
 
   -- A list that is accepted is the list of its packed form.
-  pub packed_unpacks : (list xs : List ℕ) → form F read_head list ≡ Numbers xs → (list ≡ xs) × (form F (read_groups g) (pack xs) ≡ Numbers xs)
+  pub packed_unpacks : (list xs : List ℕ) → form F read_head list ≡ Ok xs → (list ≡ xs) × (form F (read_groups g) (pack xs) ≡ Ok xs)
   packed_unpacks list xs e =
       let r = form_accepts F read_head list xs e in (
         head_given list xs [] r.1 ∙ append-nil xs,

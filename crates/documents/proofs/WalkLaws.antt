@@ -1,5 +1,6 @@
 -- Laws of the walk, for any form and any source: to walk is to read and to find no fault.
 -- What is read is `Gives`, which has no rules in it; that there is no fault is `Good`, which has no source in it.
+use Rattle.std.specs.Prelude.{Ok, Err}
 use mathlib.Core.Path.{◌≡◌, refl, sym, ap, subst}
 use mathlib.Core.List.{List, [], ◌∷◌, ◌++◌}
 use Prim.Native.Nat.{ℕ, zero, suc, ◌+◌, ◌<◌}
@@ -8,8 +9,9 @@ use native.Mathlib.Omega.{arith}
 use lib.ListN.{length, get_or, take, drop, length-append, length-drop, take-append-drop}
 use lib.Seq.{take_at, length-take-le}
 use Rattle.checks.specs.declared.refusals.Refusals.{Refusals}
+use Rattle.checks.specs.Refusals.{Checked}
 use Rattle.groups.specs.Groups.{Read, Number, Ends, TooLong, Padded}
-use Rattle.documents.specs.Walk.{Form, Taken, Refused, Took, Numbers, Source, met, unless, with, next, closed, final, walk, rest, form}
+use Rattle.documents.specs.Walk.{Form, Taken, Refused, Took, Source, met, unless, with, next, closed, final, walk, rest, form}
 use Rattle.documents.specs.Walk.{Gives}
 use Rattle.grid.proofs.Cases.{never}
 
@@ -17,7 +19,7 @@ module _ (F : Form) where
   -- No number of a list has a fault.
   abbrev pub Good : F.State → List ℕ → Type 0
   Good s [] = Unit {0}
-  Good s (x ∷ xs) = (F.fault s x ≡ 0) × Good (F.after s x) xs
+  Good s (x ∷ xs) = (F.fault s x ≡ Ok tt) × Good (F.after s x) xs
 
   -- The numbers that a form accepts.
   pub record Accepted (xs : List ℕ) : Type 0 where
@@ -42,9 +44,9 @@ met_took w Ends go xs b e = never cc
 met_took w TooLong go xs b e = never cc
 met_took w Padded go xs b e = never cc
 
-unless_took : (w : ℕ) (t : Taken) (xs b : List ℕ) → unless w t ≡ Took xs b → (w ≡ 0) × (t ≡ Took xs b)
-unless_took zero t xs b e = (refl, e)
-unless_took (suc w) t xs b e = never cc
+unless_took : (w : Checked) (t : Taken) (xs b : List ℕ) → unless w t ≡ Took xs b → (w ≡ Ok tt) × (t ≡ Took xs b)
+unless_took (Ok _) t xs b e = (refl, e)
+unless_took (Err w) t xs b e = never cc
 
 with_took : (ys : List ℕ) (t : Taken) (xs b : List ℕ) → with ys t ≡ Took xs b → (zs : List ℕ) × (t ≡ Took zs b) × (xs ≡ ys ++ zs)
 with_took ys (Refused w) xs b e = never cc
@@ -55,7 +57,7 @@ next_took : (t : Taken) (go : List ℕ → List ℕ → Taken) (xs b : List ℕ)
 next_took (Refused w) go xs b e = never cc
 next_took (Took ys c) go xs b e = (ys, c, refl, e)
 
-closed_took : (w : Refusals) (t : Taken) (xs : List ℕ) → closed w t ≡ Numbers xs → t ≡ Took xs []
+closed_took : (w : Refusals) (t : Taken) (xs : List ℕ) → closed w t ≡ Ok xs → t ≡ Took xs []
 closed_took r (Refused w) xs e = never cc
 closed_took r (Took ys []) xs e = cc
 closed_took r (Took ys (b ∷ c)) xs e = never cc
@@ -115,13 +117,13 @@ module _ (F : Form) where
   good_drop s i xs g = (good_split s (take i xs) (drop i xs) (rw (take-append-drop i xs) g)).1
 
   -- each number has no fault in the state that the numbers before it leave
-  pub good_at : (s : F.State) (xs : List ℕ) (i : ℕ) → i < length xs → Good F s xs → F.fault (final F s (take i xs)) (get_or xs i 0) ≡ 0
+  pub good_at : (s : F.State) (xs : List ℕ) (i : ℕ) → i < length xs → Good F s xs → F.fault (final F s (take i xs)) (get_or xs i 0) ≡ Ok tt
   good_at s [] i h g = absurd (not-suc-le-zero h)
   good_at s (x ∷ xs) zero h g = g.0
   good_at s (x ∷ xs) (suc i) h g = good_at (F.after s x) xs i (le_of_suc-le-suc h) g.1
 
   -- What a form accepts is the same for every source: numbers that the source gives, whole.
-  pub form_accepts : (read : Source) (a xs : List ℕ) → form F read a ≡ Numbers xs → Accepted F xs × Gives read a xs []
+  pub form_accepts : (read : Source) (a xs : List ℕ) → form F read a ≡ Ok xs → Accepted F xs × Gives read a xs []
   unfolding form
   form_accepts read a xs e =
       let h = walk F read F.head F.start a in
@@ -141,7 +143,7 @@ module _ (F : Form) where
       )
 
   whole : (read : Source) (a ys zs : List ℕ) → Good F F.start (ys ++ zs) → length ys ≡ F.head →
-      length zs ≡ F.body (final F F.start ys) → Gives read a (ys ++ zs) [] → form F read a ≡ Numbers (ys ++ zs)
+      length zs ≡ F.body (final F F.start ys) → Gives read a (ys ++ zs) [] → form F read a ≡ Ok (ys ++ zs)
   unfolding form
   whole read a ys zs g p q h =
       let d = good_split F.start ys zs g in
@@ -152,10 +154,10 @@ module _ (F : Form) where
             (record { count = q; good = d.1; gives = c.2 }),
       )
 
-  pub accepts_form : (read : Source) (a xs : List ℕ) → Accepted F xs → Gives read a xs [] → form F read a ≡ Numbers xs
+  pub accepts_form : (read : Source) (a xs : List ℕ) → Accepted F xs → Gives read a xs [] → form F read a ≡ Ok xs
   accepts_form read a xs t h =
       let e = take-append-drop F.head xs in
-      subst (λ (l : List ℕ). form F read a ≡ Numbers l) e
+      subst (λ (l : List ℕ). form F read a ≡ Ok l) e
       (whole read a (take F.head xs) (drop F.head xs)
       (rw e t.good)
       (length-take-le F.head xs (omega (arith, t.count)))

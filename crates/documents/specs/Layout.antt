@@ -2,14 +2,14 @@
 use Rattle.std.specs.Prelude.{ℕ}
 use Rattle.checks.specs.declared.refusals.Document.{Document}
 use Rattle.documents.specs.declared.State.{State}
-use Rattle.checks.specs.Refusals.{refusals_of}
+use Rattle.checks.specs.Refusals.{Checked, refusals_of}
 use Rattle.checks.specs.SettlementFaults.{settlement_fault}
 use Rattle.documents.specs.Walk.{Form}
 use Rattle.documents.specs.State.{start}
 use Rattle.documents.specs.Ticket.{ticket_fault, ticket_after, ticket_body}
 use Rattle.documents.specs.Settlement.{settlement_after, settlement_body}
 
-abbrev pub fault_in : Document → State → ℕ → ℕ
+abbrev pub fault_in : Document → State → ℕ → Checked
 fault_in Document.Ticket s x = ticket_fault s x
 fault_in (Document.Settlement n m) s x = settlement_fault n m s.place x
 

@@ -5,6 +5,7 @@ use Rattle.checks.specs.declared.ticket.Field.TheVariants.{Kind, Growers, Pilots
 use Rattle.checks.specs.declared.ticket.Field.TheVariants.{FreeGain}
 use Rattle.documents.specs.declared.State.{State}
 use Rattle.checks.specs.Hours.{noted, none_of}
+use Rattle.checks.specs.Refusals.{Checked}
 use Rattle.checks.specs.TicketFaults.{fault_of}
 use Rattle.documents.specs.State.{passed, with_parties, with_hours, with_cap}
 
@@ -61,7 +62,7 @@ after_of TariffPay s x = passed s
 after_of FreeCap s x = with_cap s s.none x
 after_of FreeGain s x = passed s
 
-abbrev pub ticket_fault : State → ℕ → ℕ
+abbrev pub ticket_fault : State → ℕ → Checked
 ticket_fault s x = fault_of (field_of s) s.cap (none_for (field_of s) s) x
 
 abbrev pub ticket_after : State → ℕ → State

@@ -1,15 +1,17 @@
 -- A walk over the numbers of a form: each is read from a source, checked by the state, and changes the state.
 -- A source is a list, and a way to read its next number: bytes in groups, or plain numbers.
-use Rattle.std.specs.Prelude.{◌≡◌, List, [], ◌∷◌, ◌++◌, ℕ, zero, suc}
+use Rattle.std.specs.Prelude.{◌≡◌, List, [], ◌∷◌, ◌++◌, ℕ, zero, suc, Result, Ok, Err}
+use Rattle.checks.specs.declared.refusals.Refusal.{Refusal}
 use Rattle.checks.specs.declared.refusals.Refusals.{Refusals}
+use Rattle.checks.specs.Refusals.{Checked}
 use Rattle.groups.specs.Groups.{Read, Number, Ends, TooLong, Padded}
 
--- What is laid down for a form: the refusal of a number in a state (0 for none), the state after it,
+-- What is laid down for a form: the refusal of a number in a state, if there is one, the state after it,
 -- how many numbers come first, how many follow once the first are known, and the refusals that every form has.
 pub record Form : Type 1 where
   pub State : Type 0
   pub start : State
-  pub fault : State → ℕ → ℕ
+  pub fault : State → ℕ → Checked
   pub after : State → ℕ → State
   pub head : ℕ
   pub body : State → ℕ
@@ -17,13 +19,12 @@ pub record Form : Type 1 where
 
 -- The numbers and what is left of the source, or the refusal.
 pub data Taken : Type 0 where
-  Refused : ℕ → Taken
+  Refused : Refusal → Taken
   Took : List ℕ → List ℕ → Taken
 
 -- What a whole form comes to.
-pub data Outcome : Type 0 where
-  Refusal : ℕ → Outcome
-  Numbers : List ℕ → Outcome
+abbrev pub Outcome : Type 0
+Outcome = Result (List ℕ) Refusal
 
 abbrev pub Source : Type 0
 Source = List ℕ → Read
@@ -45,10 +46,10 @@ met r Ends go = Refused r.ends
 met r TooLong go = Refused r.long
 met r Padded go = Refused r.padded
 
--- The refusal w of a number, unless it is 0.
-abbrev pub unless : ℕ → Taken → Taken
-unless zero t = t
-unless (suc w) t = Refused (suc w)
+-- The refusal of a number, if there is one.
+abbrev pub unless : Checked → Taken → Taken
+unless (Ok _) t = t
+unless (Err w) t = Refused w
 
 -- The numbers xs were taken before.
 abbrev pub with : List ℕ → Taken → Taken
@@ -62,9 +63,9 @@ next (Took xs rest) go = with xs (go xs rest)
 
 -- Nothing may be left, whatever it is.
 abbrev pub closed : Refusals → Taken → Outcome
-closed r (Refused w) = Refusal w
-closed r (Took xs []) = Numbers xs
-closed r (Took xs (b ∷ rest)) = Refusal r.left
+closed r (Refused w) = Err w
+closed r (Took xs []) = Ok xs
+closed r (Took xs (b ∷ rest)) = Err r.left
 
 module _ (F : Form) where
   -- The state after several numbers.

@@ -1,11 +1,12 @@
 -- The ticket that is drawn from a seed, for n growers and m pilots. Everybody's hours, and each number of a pair, take one number x of
 -- the generator.
 -- Assumes nothing.
+use Rattle.std.specs.Prelude.{Ok, Err}
 use Rattle.std.specs.Prelude.{ℕ, zero, suc, ◌+◌, ◌*◌, ◌-◌, ◌%◌, ◌≡◌, Bool, cond, ◌&&◌, List, [], ◌∷◌, ◌++◌, leb, eqb}
 use Rattle.checks.specs.Refusals.{ticket_refusals}
 use Rattle.checks.specs.Hours.{none_in}
 use Rattle.groups.specs.Groups.{pack}
-use Rattle.reader.specs.Walk.{Outcome, Refusal, Numbers}
+use Rattle.reader.specs.Walk.{Outcome}
 use Rattle.reader.specs.Answer.{packed}
 use Rattle.draws.specs.Generator.{next, start, after}
 
@@ -56,9 +57,9 @@ abbrev pub both_in_range : ℕ → ℕ → Bool
 both_in_range n m = in_range n && in_range m
 
 abbrev pub drawn : ℕ → ℕ → ℕ → Outcome
-drawn seed n m = cond (both_in_range n m) (Numbers (ticket_from n m (start seed))) (Refusal ticket_refusals.parties)
+drawn seed n m = cond (both_in_range n m) (Ok (ticket_from n m (start seed))) (Err ticket_refusals.parties)
 
 -- What is drawn passes the ticket's checks: packing takes it.
 abbrev pub Passes : Outcome → Type 0
-Passes (Refusal w) = Unit {0}
-Passes (Numbers xs) = packed xs ≡ Numbers (pack xs)
+Passes (Err w) = Unit {0}
+Passes (Ok xs) = packed xs ≡ Ok (pack xs)

@@ -5,18 +5,14 @@ mod filling;
 mod generator;
 mod values;
 
-ghost use Rattle.std.specs.Prelude.{◌≡◌, ◌+◌, ◌*◌, ◌≤◌, length};
+ghost use Rattle.std.specs.Prelude.{Ok, ◌≡◌, ◌+◌, ◌*◌, ◌≤◌, length};
 ghost use Rattle.std.proofs.lemmas.List.Edits.{sets};
-ghost use Rattle.reader.specs.Walk.{Numbers};
 ghost use Rattle.reader.specs.Answer.{reply, Tells, kept};
 ghost use Rattle.draws.specs.Drawn.{ticket_from, in_range, both_in_range, drawn, Passes};
 
 use filling::{fill_hours, fill_pairs};
 use generator::start;
-use reader::{NO_ROOM, Reply};
-
-// The refusal of growers or pilots out of range.
-const PARTIES: u8 = 5;
+use reader::Refusal;
 
 const KIND: u16 = 1;
 
@@ -56,28 +52,28 @@ fn fill(list: &mut [u16], growers: usize, pilots: usize, pairs: usize, x: u32)
 }
 
 // Writes a ticket's numbers, if the list has room for them.
-fn deliver(x: u32, growers: usize, pilots: usize, list: &mut [u16]) -> Reply
+fn deliver(x: u32, growers: usize, pilots: usize, list: &mut [u16]) -> Result<usize, Refusal>
     requires { (growers ≤ 16) × (pilots ≤ 16) }
-    ensures value { result ≡ reply (length list.old) (Numbers (ticket_from growers pilots x)) }
-    ensures list_after { list.new ≡ kept list.old (Numbers (ticket_from growers pilots x)) }
+    ensures value { result ≡ reply (length list.old) (Ok (ticket_from growers pilots x)) }
+    ensures list_after { list.new ≡ kept list.old (Ok (ticket_from growers pilots x)) }
 {
     let pairs = numbers::pairs(growers, pilots);
     let count = 3 + growers + pilots + 5 * pairs;
     if list.len() < count {
-        return Reply::Refused { why: NO_ROOM };
+        return Err(Refusal::NoRoom);
     }
     fill(list, growers, pilots, pairs, x);
-    Reply::Done { count }
+    Ok(count)
 }
 
 // Draws a ticket of so many growers and pilots from a seed, and returns the count of its numbers.
-pub fn draw(seed: u64, growers: usize, pilots: usize, list: &mut [u16]) -> Reply
+pub fn draw(seed: u64, growers: usize, pilots: usize, list: &mut [u16]) -> Result<usize, Refusal>
     ensures tells { Tells result (length list.old) (drawn seed growers pilots) }
     ensures list_after { list.new ≡ kept list.old (drawn seed growers pilots) }
     ensures passes { Passes (drawn seed growers pilots) }
 {
-    if both_in_range(growers, pilots) {
-        return deliver(start(seed), growers, pilots, list);
+    if !both_in_range(growers, pilots) {
+        return Err(Refusal::PartiesOutOfRange);
     }
-    Reply::Refused { why: PARTIES }
+    deliver(start(seed), growers, pilots, list)
 }

@@ -5,22 +5,9 @@ use Rattle.grid.specs.Sum.{sum}
 use Rattle.grid.specs.Fill.{FilledRow}
 use Rattle.market.specs.Market.{Ticket, Settlement, used_by_grower, used_by_pilot}
 use Rattle.market.specs.declared.Deal.TheVariants.{Tariff, Free}
-use Rattle.free_hours.specs.declared.Side.{Side}
-use Rattle.free_hours.specs.declared.Side.TheVariants.{Growers, Pilots}
-
--- those with whom a side has its deals
-abbrev pub across : Side → Side
-across Growers = Pilots
-across Pilots = Growers
-
--- how many there are, and their own hours
-abbrev pub parties_of : Side → Ticket → ℕ
-parties_of Growers t = t.growers
-parties_of Pilots t = t.pilots
-
-abbrev pub hours_of : Side → Ticket → ℕ → ℕ
-hours_of Growers t = t.grower_hours
-hours_of Pilots t = t.pilot_hours
+use Rattle.tables.specs.declared.Side.{Side}
+use Rattle.tables.specs.declared.Side.TheVariants.{Growers, Pilots}
+use Rattle.tables.specs.View.{across, parties_of, hours_of}
 
 -- the hours of both deals of a grower and a pilot, and of a party and its partner
 abbrev pub pair_hours : Settlement → ℕ → ℕ → ℕ

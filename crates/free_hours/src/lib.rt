@@ -3,18 +3,11 @@
 #![tactic(auto)]
 
 ghost use Rattle.std.specs.Prelude.{◌≡◌, ◌-◌, ◌<◌};
-ghost use Rattle.tables.specs.View.{ticket_of, first_sixteen, settlement_of};
-ghost use Rattle.free_hours.specs.FreeHours.{across, parties_of, hours_of, pair_hours, hours_with, free_of, RowOf};
+ghost use Rattle.tables.specs.View.{ticket_of, first_sixteen, across, parties_of, hours_of, settlement_of};
+ghost use Rattle.free_hours.specs.FreeHours.{pair_hours, hours_with, free_of, RowOf};
 
-use numbers::{entry, less};
-use tables::Quantity;
-
-// Those of whom a row of figures tells.
-#[derive(Clone, Copy)]
-pub enum Side {
-    Growers,
-    Pilots,
-}
+use numbers::entry;
+use tables::{Quantity, Side};
 
 // Those with whom a side has its deals.
 fn across(side: Side) -> Side
@@ -40,10 +33,7 @@ fn parties(ticket: &[u16], side: Side) -> usize
 fn hours_of(ticket: &[u16], side: Side, party: u16) -> u16
     ensures { result ≡ hours_of side (first_sixteen (ticket_of ticket.now)) party }
 {
-    match side {
-        Side::Growers => entry(ticket, tables::grower_place(party)),
-        Side::Pilots => entry(ticket, tables::pilot_place(ticket, party)),
-    }
+    entry(ticket, tables::hours_place(ticket, side, party))
 }
 
 // What is left of somebody's hours after those of grower i and pilot j.
@@ -58,7 +48,7 @@ fn less_pair(hours: u16, settlement: &[u16], i: u16, j: u16) -> u16
         settlement,
         tables::place(settlement, Quantity::FreeDealHours, i, j),
     );
-    less(less(hours, tariff), in_free_deal)
+    hours.saturating_sub(tariff).saturating_sub(in_free_deal)
 }
 
 // The same by a party and its partner.

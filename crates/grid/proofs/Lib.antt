@@ -1,4 +1,5 @@
 pub mod Cases
+pub mod Chains
 pub mod Sums
 pub mod Squares
 pub mod ZeroSquares

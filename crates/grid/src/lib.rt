@@ -5,6 +5,10 @@ ghost use Rattle.std.specs.Prelude.{◌≡◌, ℕ, ◌-◌, min, get_or};
 ghost use Rattle.grid.specs.Grid.{at, Square, Row};
 ghost use Rattle.grid.specs.Fill.{Filled};
 
+mod sides;
+
+pub use sides::Sides;
+
 // One cell, 0 outside the square.
 pub fn cell(sq: [[u16; 16]; 16], i: usize, j: usize) -> u16
     ensures { result ≡ at sq i j }
@@ -66,7 +70,7 @@ pub fn differences(
     let mut q = zeros();
     for i in 0..height {
         for j in 0..width {
-            q[i][j] = numbers::less(one[i][j], other[i][j]);
+            q[i][j] = one[i][j].saturating_sub(other[i][j]);
         }
     }
     q

@@ -1,7 +1,7 @@
 // The guess, the settler and the test of certificates, on rows and squares made of a ticket's list of numbers. The guess and the settler
 // are given the pilots of another ticket, which may have fewer, and write its settlement.
 use super::files::{pilots, settlement};
-use tables::{Quantity, square};
+use tables::{Quantity, Side, square};
 
 // Writes the file of a guess, and answers whether it is certified.
 pub(crate) fn guess(ticket: &[u8], list: &[u16], lent: &mut [u8; 15]) -> bool {
@@ -11,8 +11,8 @@ pub(crate) fn guess(ticket: &[u8], list: &[u16], lent: &mut [u8; 15]) -> bool {
     let certified = guess::guess(
         tables::growers(list),
         pilots(ticket),
-        tables::grower_hours(list),
-        tables::pilot_hours(list),
+        tables::hours(list, Side::Growers),
+        tables::hours(list, Side::Pilots),
         square(list, Quantity::TariffCap),
         square(list, Quantity::TariffGain),
         square(list, Quantity::TariffPay),
@@ -33,8 +33,8 @@ pub(crate) fn settled(ticket: &[u8], list: &[u16]) -> [u8; 15] {
     settler::settle_squares(
         tables::growers(list),
         pilots(ticket),
-        tables::grower_hours(list),
-        tables::pilot_hours(list),
+        tables::hours(list, Side::Growers),
+        tables::hours(list, Side::Pilots),
         square(list, Quantity::TariffCap),
         square(list, Quantity::TariffGain),
         square(list, Quantity::TariffPay),
@@ -51,8 +51,8 @@ pub(crate) fn is_certified(list: &[u16], settlement: &[u16]) -> bool {
     certificate::certified(
         tables::growers(list),
         tables::pilots(list),
-        tables::grower_hours(list),
-        tables::pilot_hours(list),
+        tables::hours(list, Side::Growers),
+        tables::hours(list, Side::Pilots),
         square(list, Quantity::TariffCap),
         square(list, Quantity::TariffGain),
         square(list, Quantity::TariffPay),

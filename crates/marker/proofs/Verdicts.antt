@@ -1,5 +1,6 @@
 -- The verdict of each walk, from what its search found.
 -- Assumes nothing.
+use Rattle.std.specs.Prelude.{None, Option, Some}
 use Prim.Native.Nat.{ℕ, ◌+◌, ◌*◌, ◌<◌, ◌≤◌, min}
 use mathlib.Core.Path.{◌≡◌, refl, sym, ◌∙◌}
 use mathlib.Core.Bool.{Bool, true, false}
@@ -13,11 +14,8 @@ use Rattle.grid.proofs.FirstPlaces.{none_more, first_is}
 use Rattle.grid.proofs.Places.{cell_place, deal_place, row_within}
 use Rattle.market.specs.declared.Deal.{Deal}
 use Rattle.market.specs.Market.{Ticket, Settlement}
-use Rattle.verdicts.specs.declared.Found.{Found}
-use Rattle.verdicts.specs.declared.Found.TheVariants.{Nothing, Fault}
 use Rattle.verdicts.specs.declared.Verdict.{Verdict}
 use Rattle.verdicts.specs.declared.Verdict.TheVariants.{Sound, GrowerOverHours, PilotOverHours}
-use Rattle.verdicts.specs.declared.Spare.{Spare}
 use Rattle.verdicts.specs.Tests.{lines}
 use Rattle.verdicts.specs.Faults.{found_if, deal_fault}
 use Rattle.marker.specs.declared.Party.{Party}
@@ -28,11 +26,11 @@ use Rattle.marker.proofs.DealNumbers.{deal_of_number, number_small}
 use Rattle.marker.proofs.Walks.{walk_found, walk_on}
 
 -- what is found of a test
-pub found_holds : (b : Bool) (v w : Verdict) (r : Found) → r ≡ found_if b v → r ≡ Fault w → (b ≡ true) × (w ≡ v)
+pub found_holds : (b : Bool) (v w : Verdict) (r : Option Verdict) → r ≡ found_if b v → r ≡ Some w → (b ≡ true) × (w ≡ v)
 found_holds true v w r e f = (refl, cc)
 found_holds false v w r e f = never cc
 
-pub found_fails : (b : Bool) (v : Verdict) (r : Found) → r ≡ found_if b v → r ≡ Nothing → b ≡ false
+pub found_fails : (b : Bool) (v : Verdict) (r : Option Verdict) → r ≡ found_if b v → r ≡ None → b ≡ false
 found_fails true v r e f = never cc
 found_fails false v r e f = refl
 
@@ -40,11 +38,11 @@ found_fails false v r e f = refl
 module _ (d : Deal) (g p : Party) (n m i j cap joint_gain hours bound : ℕ) (eh : hours ≡ lines g.tariff g.free d j)
     (ec : bound ≡ cap) where
   -- at its cap nothing, whatever the spares
-  pub at_cap : bound ≤ hours → Nothing ≡ deal_found d g p n m i j cap joint_gain
+  pub at_cap : bound ≤ hours → None ≡ deal_found d g p n m i j cap joint_gain
   at_cap h = rw (← eh, ← ec, le-ltb hours bound h)
 
-  pub below-cap : (count : ℕ) → count ≡ 2 * (i * m + j) + deal_number d + 1 → (of_grower of_pilot : Spare) → of_grower ≡ spare_in g m d j →
-      of_pilot ≡ spare_in p n d i → (r : Found) →
+  pub below-cap : (count : ℕ) → count ≡ 2 * (i * m + j) + deal_number d + 1 → (of_grower of_pilot : Option ℕ) → of_grower ≡ spare_in g m d j →
+      of_pilot ≡ spare_in p n d i → (r : Option Verdict) →
       r ≡ deal_fault i j d count hours bound g.unused p.unused of_grower of_pilot (get_or g.earned j 0) (get_or p.earned i 0)
       joint_gain →
       r ≡ deal_found d g p n m i j cap joint_gain
@@ -52,26 +50,26 @@ module _ (d : Deal) (g p : Party) (n m i j cap joint_gain hours bound : ℕ) (eh
 
 module _ (test : ℕ → Bool) (k : ℕ) (verdict : ℕ → Verdict) where
   -- a walk that stops at place p, and one that goes on to its end
-  pub found_first : (p : ℕ) → NoneBefore test p → p < k → test p ≡ true → (v : Verdict) → v ≡ verdict p → Fault v ≡ first_found test k verdict
+  pub found_first : (p : ℕ) → NoneBefore test p → p < k → test p ≡ true → (v : Verdict) → v ≡ verdict p → Some v ≡ first_found test k verdict
   found_first p before h here v e =
       let f : first test k ≡ p = first_is test k p (omega arith) before (λ _. here) in rw (f, lt-ltb p k h, e)
 
-  pub found_none : NoneBefore test k → Nothing ≡ first_found test k verdict
+  pub found_none : NoneBefore test k → None ≡ first_found test k verdict
   found_none all =
       let f : first test k ≡ k = first_is test k k (omega arith) all (λ h. absurd (omega arith)) in
       rw (f, le-ltb k k (omega arith))
 
   -- the verdict of a walk by what was found
-  pub walk_fault : (after v : Verdict) (r : Found) → r ≡ first_found test k verdict → r ≡ Fault v → v ≡ walk test k verdict after
+  pub walk_fault : (after v : Verdict) (r : Option Verdict) → r ≡ first_found test k verdict → r ≡ Some v → v ≡ walk test k verdict after
   walk_fault after v r e f =
       let h = found_holds (ltb (first test k) k) (verdict (first test k)) v r e f in rw h.0 h.1
 
-  pub walk_none : (after : Verdict) (r : Found) → r ≡ first_found test k verdict → r ≡ Nothing → after ≡ walk test k verdict after
+  pub walk_none : (after : Verdict) (r : Option Verdict) → r ≡ first_found test k verdict → r ≡ None → after ≡ walk test k verdict after
   walk_none after r e f = rw (found_fails (ltb (first test k) k) (verdict (first test k)) r e f)
 
 module _ (t : Ticket) (x : Settlement) where
   -- what is found of a pair, at its place
-  pub pair_found : (i j : ℕ) → j < t.pilots → (r : Found) → r ≡ found_if (wrong_pair t x i j) (pair_verdict t x i j) →
+  pub pair_found : (i j : ℕ) → j < t.pilots → (r : Option Verdict) → r ≡ found_if (wrong_pair t x i j) (pair_verdict t x i j) →
       r ≡ found_if (pair_fault_at t x (i * t.pilots + j)) (by_pair (pair_verdict t x) t.pilots (i * t.pilots + j))
   pair_found i j hj r f = let e = cell_place t.pilots i j hj in rw (e.0, e.1) f
 
@@ -103,21 +101,21 @@ module _ (t : Ticket) (x : Settlement) where
     place = 2 * (i * t.pilots + j) + deal_number d
 
     -- what is found of a deal, at its place
-    deal_found_lem : (r : Found) → r ≡ found_if (wrong_deal t x d i j) (deal_verdict t x (place + 1) i j d) →
+    deal_found_lem : (r : Option Verdict) → r ≡ found_if (wrong_deal t x d i j) (deal_verdict t x (place + 1) i j d) →
         r ≡ found_if (deal_fault_at t x place) (deal_verdict_at t x place)
     deal_found_lem r f = let e = deal_place t.pilots i j (deal_number d) hj (number_small d) in rw (e.0, e.1, e.2, deal_of_number d) f
 
-    module _ (before : NoneBefore (deal_fault_at t x) place) (r : Found)
+    module _ (before : NoneBefore (deal_fault_at t x) place) (r : Option Verdict)
         (f : r ≡ found_if (wrong_deal t x d i j) (deal_verdict t x (place + 1) i j d)) where
       -- it is at fault, or passed by
-      pub deal_judged : (worth : ℕ) (v : Verdict) → r ≡ Fault v → v ≡ deals_judged t x worth
+      pub deal_judged : (worth : ℕ) (v : Verdict) → r ≡ Some v → v ≡ deals_judged t x worth
       deal_judged worth v e =
           let h = found_holds _ _ v r (deal_found_lem r f) e in
           let below : place < 2 * pairs t = omega (arith, row_within i t.growers t.pilots hi, number_small d) in
           h.1 ∙ walk_found (deal_fault_at t x) (2 * pairs t) (deal_verdict_at t x) (Sound (2 * pairs t) worth) place
           (sym (first_is _ _ place (omega arith) before (λ _. h.0))) below
 
-      pub deal_passed : r ≡ Nothing → NoneBefore (deal_fault_at t x) (place + 1)
+      pub deal_passed : r ≡ None → NoneBefore (deal_fault_at t x) (place + 1)
       deal_passed e = none_more _ _ before (found_fails _ _ r (deal_found_lem r f) e)
 
 -- a square reaches as far as at most sixteen growers and pilots

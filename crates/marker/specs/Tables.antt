@@ -1,13 +1,12 @@
 -- Parties, and what a walk found, as the code holds them.
 -- Assumes nothing.
+use Rattle.std.specs.Prelude.{Option}
 use Rattle.std.specs.Prelude.{ℕ, ◌+◌, ◌*◌, ◌-◌, ◌<◌, ◌≡◌, Bool, List, [], ltb, get_or}
 use Rattle.grid.specs.Grid.{Grid}
 use Rattle.grid.specs.First.{first}
 use Rattle.market.specs.declared.Deal.{Deal}
 use Rattle.market.specs.Market.{Ticket, Settlement, sum_deals, earned_by_grower, earned_by_pilot}
 use Rattle.market.specs.Tables.{ticket_in, settlement_in}
-use Rattle.verdicts.specs.declared.Found.{Found}
-use Rattle.verdicts.specs.declared.Spare.{Spare}
 use Rattle.verdicts.specs.declared.Verdict.{Verdict}
 use Rattle.verdicts.specs.Tests.{cheapest_spare, lines}
 use Rattle.verdicts.specs.Faults.{found_if, deal_fault}
@@ -17,7 +16,7 @@ use Rattle.marker.specs.Verdict.{deal_number}
 -- Walks.
 
 -- the verdict on the first of k places at which a test holds
-abbrev pub first_found : (ℕ → Bool) → ℕ → (ℕ → Verdict) → Found
+abbrev pub first_found : (ℕ → Bool) → ℕ → (ℕ → Verdict) → Option Verdict
 first_found test k verdict = found_if (ltb (first test k) k) (verdict (first test k))
 
 -- Parties. A row has a number for each partner.
@@ -67,11 +66,11 @@ abbrev pub IsPilot : Ticket → Settlement → ℕ → Party → Type 0
 IsPilot t x j p = IsParty p t.growers (t.pilot_hours j) (λ e k. x.hours e k j) (λ e k. earned_by_pilot t x e k j)
 
 -- a party's cheapest spare for the deal d with partner y of k; a free hour is worth nothing
-abbrev pub spare_in : Party → ℕ → Deal → ℕ → Spare
+abbrev pub spare_in : Party → ℕ → Deal → ℕ → Option ℕ
 spare_in p k d y = cheapest_spare p.unused 0 (lines p.tariff p.free) (lines p.earned p.share) k d y
 
 -- what is found of the deal, whose parties are grower i, one of n, and pilot j, one of m
-abbrev pub deal_found : Deal → Party → Party → ℕ → ℕ → ℕ → ℕ → ℕ → ℕ → Found
+abbrev pub deal_found : Deal → Party → Party → ℕ → ℕ → ℕ → ℕ → ℕ → ℕ → Option Verdict
 deal_found d g p n m i j cap joint_gain =
     deal_fault i j d (2 * (i * m + j) + deal_number d + 1) (lines g.tariff g.free d j) cap g.unused p.unused
     (spare_in g m d j) (spare_in p n d i) (get_or g.earned j 0) (get_or p.earned i 0) joint_gain

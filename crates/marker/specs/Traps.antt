@@ -1,6 +1,7 @@
 -- The paper's traps for the marker: marking by rules of which a trap changes one. Only proofs/WrongMarkers.antt uses this.
 -- Everywhere i is a grower, j a pilot, d and e deals.
 -- Assumes nothing.
+use Rattle.std.specs.Prelude.{None, Option, Some}
 use Rattle.std.specs.Prelude.{ℕ, ◌+◌, ◌*◌, Bool, false, cond, ◌&&◌, ◌||◌, List, ltb, leb, eqb}
 use Rattle.grid.specs.First.{by_place}
 use Rattle.reader.specs.Walk.{Outcome, Refusal, Numbers}
@@ -10,8 +11,6 @@ use Rattle.market.specs.declared.Deal.TheVariants.{Tariff, Free}
 use Rattle.market.specs.Market.{Ticket, Settlement, cap, earned_by_grower, earned_by_pilot}
 use Rattle.tables.specs.View.{growers_of, pilots_of, ticket_of, settlement_of}
 use Rattle.market.specs.Totals.{promised_worth}
-use Rattle.verdicts.specs.declared.Spare.{Spare}
-use Rattle.verdicts.specs.declared.Spare.TheVariants.{Nothing, Worth}
 use Rattle.verdicts.specs.declared.Verdict.{Verdict}
 use Rattle.verdicts.specs.declared.Verdict.TheVariants.{Refused, Sound, TariffOverCap, FreeOverCap, WrongPay}
 use Rattle.verdicts.specs.declared.Verdict.TheVariants.{GrowerOverHours, PilotOverHours}
@@ -26,7 +25,7 @@ pub record Rules : Type 0 where
   -- a deal, a partner, and a party's hours by deal and partner: those of them that are spares for that deal with that partner
   pub spares : Deal → ℕ → (Deal → ℕ → ℕ) → Deal → ℕ → ℕ
   -- a deal, two spares, gain, pay and joint gain: an hour more of the deal outweighs the spares
-  pub outweigh : Deal → Spare → Spare → ℕ → ℕ → ℕ → Bool
+  pub outweigh : Deal → Option ℕ → Option ℕ → ℕ → ℕ → ℕ → Bool
 
 -- the rules of marking
 abbrev pub right : Rules
@@ -41,12 +40,12 @@ abbrev pub other_deal_forgotten : Rules
 other_deal_forgotten = record { too_many = ltb; spares = λ d y hours e l. cond (eqb l y) 0 (hours e l); outweigh = outweighs }
 
 -- "'At least' for 'greater'": the joint gain is at least that of two spares together
-abbrev both_at_most : Spare → Spare → ℕ → Bool
-both_at_most Nothing q v = false
-both_at_most (Worth w) Nothing v = false
-both_at_most (Worth w) (Worth u) v = leb (w + u) v
+abbrev both_at_most : Option ℕ → Option ℕ → ℕ → Bool
+both_at_most None q v = false
+both_at_most (Some w) None v = false
+both_at_most (Some w) (Some u) v = leb (w + u) v
 
-abbrev at_least : Deal → Spare → Spare → ℕ → ℕ → ℕ → Bool
+abbrev at_least : Deal → Option ℕ → Option ℕ → ℕ → ℕ → ℕ → Bool
 at_least Tariff of_grower of_pilot gain pay joint_gain = below of_grower gain && below of_pilot pay
 at_least Free of_grower of_pilot gain pay joint_gain = both_at_most of_grower of_pilot joint_gain
 
@@ -69,14 +68,14 @@ module _ (r : Rules) where
     abbrev pair_verdict : ℕ → ℕ → Verdict
     pair_verdict i j = cond (over_cap Tariff i j) (TariffOverCap i j) (cond (over_cap Free i j) (FreeOverCap i j) (WrongPay i j))
 
-    abbrev grower_spare : Deal → ℕ → ℕ → Spare
+    abbrev grower_spare : Deal → ℕ → ℕ → Option ℕ
     grower_spare d i j =
-        cheapest_of (count_in (free_of_grower t x i) (t.grower_standby i) Nothing) (r.spares d j (λ e l. x.hours e i l))
+        cheapest_of (count_in (free_of_grower t x i) (t.grower_standby i) None) (r.spares d j (λ e l. x.hours e i l))
         (λ e l. earned_by_grower t x e i l) t.pilots
 
-    abbrev pilot_spare : Deal → ℕ → ℕ → Spare
+    abbrev pilot_spare : Deal → ℕ → ℕ → Option ℕ
     pilot_spare d i j =
-        cheapest_of (count_in (free_of_pilot t x j) (t.pilot_standby j) Nothing) (r.spares d i (λ e k. x.hours e k j))
+        cheapest_of (count_in (free_of_pilot t x j) (t.pilot_standby j) None) (r.spares d i (λ e k. x.hours e k j))
         (λ e k. earned_by_pilot t x e k j) t.growers
 
     abbrev wrong_deal : Deal → ℕ → ℕ → Bool

@@ -1,13 +1,13 @@
 -- The verdict on a settlement: the first fault in the order of docs/FORMAT.md, its place, and the number of deals looked at.
 -- Everywhere i is a grower, j a pilot, d and e deals.
 -- Assumes nothing.
+use Rattle.std.specs.Prelude.{Option}
 use Rattle.std.specs.Prelude.{ℕ, zero, suc, ◌+◌, ◌*◌, ◌-◌, ◌/◌, ◌%◌, Bool, cond, ◌||◌, ltb}
 use Rattle.grid.specs.First.{first, by_place}
 use Rattle.market.specs.declared.Deal.{Deal}
 use Rattle.market.specs.declared.Deal.TheVariants.{Tariff, Free}
 use Rattle.market.specs.Market.{Ticket, Settlement, cap, used_by_grower, used_by_pilot, earned_by_grower, earned_by_pilot}
 use Rattle.market.specs.Totals.{promised_worth}
-use Rattle.verdicts.specs.declared.Spare.{Spare}
 use Rattle.verdicts.specs.declared.Verdict.{Verdict}
 use Rattle.verdicts.specs.declared.Verdict.TheVariants.{Sound, TariffOverCap, FreeOverCap, WrongPay}
 use Rattle.verdicts.specs.declared.Verdict.TheVariants.{GrowerOverHours, PilotOverHours, Idle, Blocks}
@@ -60,11 +60,11 @@ module _ (t : Ticket) (x : Settlement) where
   free_of_pilot j = t.pilot_hours j - used_by_pilot t x.hours j
 
   -- somebody's cheapest spare for the deal d of i and j
-  abbrev pub grower_spare : Deal → ℕ → ℕ → Spare
+  abbrev pub grower_spare : Deal → ℕ → ℕ → Option ℕ
   grower_spare d i j =
       cheapest_spare (free_of_grower i) (t.grower_standby i) (λ e l. x.hours e i l) (λ e l. earned_by_grower t x e i l) t.pilots d j
 
-  abbrev pub pilot_spare : Deal → ℕ → ℕ → Spare
+  abbrev pub pilot_spare : Deal → ℕ → ℕ → Option ℕ
   pilot_spare d i j =
       cheapest_spare (free_of_pilot j) (t.pilot_standby j) (λ e k. x.hours e k j) (λ e k. earned_by_pilot t x e k j) t.growers d i
 

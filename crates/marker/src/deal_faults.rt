@@ -7,7 +7,7 @@ ghost use Rattle.marker.specs.Tables.{spare_in, deal_found, Origin, ticket_from,
 
 use crate::Party;
 use market::Deal;
-use verdicts::{Found, Spare, Verdict, cheapest_spare};
+use verdicts::{Verdict, cheapest_spare};
 
 // One of two numbers, by the deal.
 fn of_deal(deal: Deal, tariff: u16, free: u16) -> u16
@@ -31,7 +31,7 @@ fn hours_with(party: Party, deal: Deal, y: usize) -> u16
 }
 
 // A party's cheapest spare for a deal with partner y, one of so many.
-fn spare(party: Party, partners: usize, deal: Deal, y: usize) -> Spare
+fn spare(party: Party, partners: usize, deal: Deal, y: usize) -> Option<u16>
     requires { partners ≤ 16 }
     ensures { result ≡ spare_in party partners deal y }
 {
@@ -66,7 +66,7 @@ fn deal_fault(
     tariff_cap: u16,
     free_cap: u16,
     joint_gain: u16,
-) -> Found
+) -> Option<Verdict>
     requires { (n ≤ 16) × (m ≤ 16) × (i < 16) × (j < 16) }
     ensures { result ≡ deal_found deal grower pilot n m i j (by_deal tariff_cap free_cap deal) joint_gain }
 {
@@ -74,7 +74,7 @@ fn deal_fault(
     let cap = of_deal(deal, tariff_cap, free_cap);
     // at its cap it has no fault, so that no spares are worked out for it
     if cap <= hours {
-        return Found::Nothing;
+        return None;
     }
     verdicts::deal_fault(
         i,
@@ -128,7 +128,7 @@ pub(crate) fn judge_deals(
                     free_cap[i][j],
                     joint_gain[i][j],
                 );
-                if let Found::Fault { verdict: fault } = found {
+                if let Some(fault) = found {
                     verdict = fault;
                     break 'search;
                 }

@@ -10,9 +10,9 @@ use crate::deal_faults::judge_deals;
 use crate::pair_faults::first_pair_fault;
 use crate::parties::{all_growers, all_pilots, first_over};
 use certificate::certified;
-use tables::{Quantity, square};
+use tables::{Quantity, Side, square};
 use totals::promised_worth;
-use verdicts::{Found, Verdict};
+use verdicts::Verdict;
 
 // Growers over their hours, then pilots: verdicts 5 and 6; then deals.
 fn judge_parties(
@@ -71,7 +71,7 @@ fn judge_exactly(
         free_deal_hours,
         pay,
     );
-    if let Found::Fault { verdict } = found {
+    if let Some(verdict) = found {
         return verdict;
     }
     let growers = all_growers(
@@ -162,8 +162,8 @@ pub(crate) fn judge(ticket: &[u16], settlement: &[u16]) -> Verdict
     judge_squares(
         tables::growers(ticket),
         tables::pilots(ticket),
-        tables::grower_hours(ticket),
-        tables::pilot_hours(ticket),
+        tables::hours(ticket, Side::Growers),
+        tables::hours(ticket, Side::Pilots),
         square(ticket, Quantity::TariffCap),
         square(ticket, Quantity::TariffGain),
         square(ticket, Quantity::TariffPay),

@@ -4,7 +4,7 @@ ghost use Rattle.market.specs.Tables.{ticket_in, settlement_in};
 ghost use Rattle.marker.specs.Verdict.{by_pair, pair_verdict, pair_fault_at};
 ghost use Rattle.marker.specs.Tables.{first_found};
 
-use verdicts::{Found, pair_fault};
+use verdicts::{Verdict, pair_fault};
 
 // The first walk: the first pair at fault.
 pub(crate) fn first_pair_fault(
@@ -16,7 +16,7 @@ pub(crate) fn first_pair_fault(
     tariff_hours: [[u16; 16]; 16],
     free_deal_hours: [[u16; 16]; 16],
     pay: [[u16; 16]; 16],
-) -> Found
+) -> Option<Verdict>
     requires { (n ≤ 16) × (m ≤ 16) }
     ensures { result ≡ first_found
         (pair_fault_at (ticket_in n m [] [] tariff_cap [] [] free_cap joint_gain) (settlement_in tariff_hours free_deal_hours pay)) (n * m)
@@ -34,10 +34,10 @@ pub(crate) fn first_pair_fault(
                 pay[i][j],
                 joint_gain[i][j],
             );
-            if let Found::Fault { verdict } = found {
-                return Found::Fault { verdict };
+            if let Some(verdict) = found {
+                return Some(verdict);
             }
         }
     }
-    Found::Nothing
+    None
 }

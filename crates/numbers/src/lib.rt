@@ -14,7 +14,7 @@ pub const SIDE: usize = 16;
 pub fn within(count: usize) -> usize
     ensures { (result ≡ min 16 count) × (result < 17) }
 {
-    if count < SIDE { count } else { SIDE }
+    count.min(SIDE)
 }
 
 // How many pairs those make. The product is proved to fit here, once.
@@ -28,14 +28,14 @@ pub fn pairs(growers: usize, pilots: usize) -> usize
 pub fn wide(x: u16) -> u32
     ensures { (result ≡ x) × (result < 65536) }
 {
-    x as u32
+    u32::from(x)
 }
 
 // A wide number at the width that products of such are taken in.
 pub fn widest(x: u32) -> u64
     ensures { (result ≡ x) × (result < 4294967296) }
 {
-    x as u64
+    u64::from(x)
 }
 
 // A product at that width, in which 2^32 of them can be added.
@@ -49,20 +49,20 @@ pub fn product(x: u16, y: u16) -> u64
 pub fn index(x: u16) -> usize
     ensures { (result ≡ x) × (result < 65536) }
 {
-    x as usize
+    usize::from(x)
 }
 
 // The difference, but 0 if y is greater; and of wide numbers.
 pub fn less(x: u16, y: u16) -> u16
     ensures { result ≡ x - y }
 {
-    if y < x { x - y } else { 0 }
+    x.saturating_sub(y)
 }
 
 pub fn less_wide(x: u32, y: u32) -> u32
     ensures { result ≡ x - y }
 {
-    if x < y { 0 } else { x - y }
+    x.saturating_sub(y)
 }
 
 // What is left of a number when a wide one is taken from it.
@@ -76,17 +76,17 @@ pub fn left(x: u16, y: u32) -> u16
 pub fn lesser(x: u16, y: u16) -> u16
     ensures { result ≡ min x y }
 {
-    if y < x { y } else { x }
+    x.min(y)
 }
 
 pub fn least(x: u32, y: u32) -> u32
     ensures { result ≡ min x y }
 {
-    if x < y { x } else { y }
+    x.min(y)
 }
 
 pub fn most(x: u32, y: u32) -> u32
     ensures { result ≡ max x y }
 {
-    if x < y { y } else { x }
+    x.max(y)
 }

@@ -5,18 +5,14 @@ ghost use Rattle.std.specs.Prelude.{◌≡◌, get_or, length, replicate, take};
 pub fn front<'a>(list: &'a [u16], count: usize) -> &'a [u16]
     ensures { result.now ≡ take count list.now }
 {
-    if count < list.len() {
-        &list[..count]
-    } else {
-        list
-    }
+    &list[..count.min(list.len())]
 }
 
 // The number at a place of a list, 0 past its end.
 pub fn entry(list: &[u16], place: usize) -> u16
     ensures { result ≡ get_or list.now place 0 }
 {
-    if place < list.len() { list[place] } else { 0 }
+    list.get(place).copied().unwrap_or(0)
 }
 
 // As many as the longest ticket has: three, the hours of 16 growers and of 16 pilots, and five for each of 256 pairs.

@@ -1,7 +1,8 @@
 // What is held, and what a call answers.
 ghost use Rattle.open_market.specs.Markets.{Settled};
 
-use free_hours::{Side, of_side};
+use free_hours::of_side;
+use tables::Side;
 
 // A ticket's numbers and those of a sound settlement of it, each with zeros after them; and the free hours that the settlement leaves to
 // everybody, 0 beyond the last party.

@@ -16,14 +16,15 @@ use Rattle.checks.specs.Refusals.{settlement_refusals}
 use Rattle.checks.specs.Hours.{noted_all, none_of, none_in}
 use Rattle.checks.specs.TicketFaults.{cap_fault, amount_fault, pair_passes, fault_of}
 use Rattle.checks.specs.SettlementFaults.{settlement_fault}
-use Rattle.checks.proofs.FaultLaws.{must_holds, party_range, settlement_passes_lem}
+use Rattle.std.specs.Prelude.{Ok, Err, is_ok}
+use Rattle.checks.proofs.FaultLaws.{is_ok-true, must_holds, party_range, settlement_passes_lem}
 use Rattle.checks.proofs.HourLaws.{none-noted, none_taken}
 use Rattle.groups.specs.Groups.{groups}
 use Rattle.grid.proofs.Cases.{lt_or_le}
 use Rattle.grid.proofs.EveryLaws.{both_hold, every-at}
 use Rattle.grid.proofs.Places.{inside}
 use Rattle.documents.specs.declared.State.{State}
-use Rattle.documents.specs.Walk.{Numbers, read_head, form}
+use Rattle.documents.specs.Walk.{read_head, form}
 use Rattle.documents.specs.State.{start}
 use Rattle.documents.specs.Layout.{form_of, ticket, settlement}
 use Rattle.passing.specs.Passes.{head_passes, hours_pass, pair_passes_at, pairs_pass, all_fit, passes_as}
@@ -35,7 +36,7 @@ use Rattle.documents.proofs.SettlementLaws.{settlement_accepts}
 
 -- What passes at every place, said of each place: everybody's hours, all pairs, and all numbers of a settlement.
 abbrev pub HoursPass : List ℕ → ℕ → Type 0
-HoursPass list k = (p : ℕ) → p < k → fault_of Hours 0 false (get_or list (3 + p) 0) ≡ 0
+HoursPass list k = (p : ℕ) → p < k → fault_of Hours 0 false (get_or list (3 + p) 0) ≡ Ok tt
 
 abbrev pub PairsPass : List ℕ → ℕ → ℕ → Type 0
 PairsPass list n m =
@@ -46,7 +47,7 @@ abbrev AllFit : List ℕ → Type 0
 AllFit list = (k : ℕ) → k < length list → get_or list k 0 < 128 ^ groups
 
 hours_pass_lem : (list : List ℕ) (k : ℕ) → hours_pass list k ≡ true → HoursPass list k
-hours_pass_lem list k e p h = eqb-true _ 0 (every-at _ k p e h)
+hours_pass_lem list k e p h = is_ok-true _ (every-at _ k p e h)
 
 pairs_pass_lem : (list : List ℕ) (n m : ℕ) → pairs_pass list n m ≡ true → PairsPass list n m
 pairs_pass_lem list n m e i hi j hj = every-at _ m j (every-at _ n i e hi) hj
@@ -57,16 +58,16 @@ all_fit_lem list e k h = ltb-true _ _ (every-at _ (length list) k e h)
 -- No number of a pair that passes has a fault.
 pub passes_faultless : (none : Bool) (a b c d e : ℕ) → pair_passes none a b c d e ≡ true → Faultless none a b c d e
 passes_faultless none a b c d e h =
-    let t₄ = both_hold _ (eqb (amount_fault d e) 0) h in
-    let t₃ = both_hold _ (eqb (cap_fault none d) 0) t₄.0 in
-    let t₂ = both_hold _ (eqb (amount_fault a c) 0) t₃.0 in
-    let t₁ = both_hold (eqb (cap_fault none a) 0) (eqb (amount_fault a b) 0) t₂.0 in
+    let t₄ = both_hold _ (is_ok (amount_fault d e)) h in
+    let t₃ = both_hold _ (is_ok (cap_fault none d)) t₄.0 in
+    let t₂ = both_hold _ (is_ok (amount_fault a c)) t₃.0 in
+    let t₁ = both_hold (is_ok (cap_fault none a)) (is_ok (amount_fault a b)) t₂.0 in
     record {
-      tariff_cap = eqb-true _ 0 t₁.0;
-      tariff_gain = eqb-true _ 0 t₁.1;
-      tariff_pay = eqb-true _ 0 t₂.1;
-      free_cap = eqb-true _ 0 t₃.1;
-      free_gain = eqb-true _ 0 t₄.1;
+      tariff_cap = is_ok-true _ t₁.0;
+      tariff_gain = is_ok-true _ t₁.1;
+      tariff_pay = is_ok-true _ t₂.1;
+      free_cap = is_ok-true _ t₃.1;
+      free_gain = is_ok-true _ t₄.1;
     }
 
 -- The pair q of n growers and m pilots in the numbers xs after the first three.
@@ -115,7 +116,7 @@ module _ (xs : List ℕ) (n m : ℕ) where
 
   -- Hours from party p on, as many as are left, that have no fault, before pairs that are good.
   hours_good : (k p : ℕ) (s : State) → Stands s n m (3 + p) → p + k ≡ n + m → n + m ≤ length xs →
-      ((h : ℕ) → h < n + m → fault_of Hours 0 false (get_or xs h 0) ≡ 0) →
+      ((h : ℕ) → h < n + m → fault_of Hours 0 false (get_or xs h 0) ≡ Ok tt) →
       ((t : State) → Stands t n m (3 + n + m) → t.without ≡ noted_all s.without (take k (drop p xs)) → Good ticket t (drop (n + m) xs)) →
       Good ticket s (drop p xs)
   hours_good zero p s t e l pass later =
@@ -139,9 +140,9 @@ module _ (xs : List ℕ) (n m : ℕ) where
 -- Growers and pilots that pass are few.
 pub head_range : (k n m : ℕ) → head_passes k n m ≡ true → (n ≤ 16) × (m ≤ 16)
 head_range k n m e =
-    let t = both_hold _ (eqb (fault_of Pilots 0 false m) 0) e in
-    let u = both_hold (eqb (fault_of Kind 0 false k) 0) (eqb (fault_of Growers 0 false n) 0) t.0 in
-    ((party_range n (eqb-true _ 0 u.1)).1, (party_range m (eqb-true _ 0 t.1)).1)
+    let t = both_hold _ (is_ok (fault_of Pilots 0 false m)) e in
+    let u = both_hold (is_ok (fault_of Kind 0 false k)) (is_ok (fault_of Growers 0 false n)) t.0 in
+    ((party_range n (is_ok-true _ u.1)).1, (party_range m (is_ok-true _ t.1)).1)
 
 -- The pair q of a list that passes.
 pair_passes_lem : (k n m : ℕ) (xs : List ℕ) → PairsPass (k ∷ n ∷ m ∷ xs) n m → (q : ℕ) → q < n * m → FaultlessAt xs n m (none_in xs n m q) q
@@ -161,11 +162,11 @@ pair_passes_lem k n m xs pass q h =
 ticket_good : (k n m : ℕ) (xs : List ℕ) → head_passes k n m ≡ true → length xs ≡ n + m + 5 * (n * m) →
     HoursPass (k ∷ n ∷ m ∷ xs) (n + m) → PairsPass (k ∷ n ∷ m ∷ xs) n m → Good ticket start (k ∷ n ∷ m ∷ xs)
 ticket_good k n m xs head l hours pairs =
-    let t = both_hold _ (eqb (fault_of Pilots 0 false m) 0) head in
-    let u = both_hold (eqb (fault_of Kind 0 false k) 0) (eqb (fault_of Growers 0 false n) 0) t.0 in
-    let hn = eqb-true _ 0 u.1 in
-    let hm = eqb-true _ 0 t.1 in (
-      eqb-true _ 0 u.0,
+    let t = both_hold _ (is_ok (fault_of Pilots 0 false m)) head in
+    let u = both_hold (is_ok (fault_of Kind 0 false k)) (is_ok (fault_of Growers 0 false n)) t.0 in
+    let hn = is_ok-true _ u.1 in
+    let hm = is_ok-true _ t.1 in (
+      is_ok-true _ u.0,
       (
         hn,
         (
@@ -188,7 +189,7 @@ ticket_good k n m xs head l hours pairs =
         (λ q h. rw (none q (omega arith)) (pair_passes_lem k n m xs pairs q (omega arith))))
 
 pub ticket_whole : (list : List ℕ) (k n m : ℕ) → k ≡ get_or list 0 0 → n ≡ get_or list 1 0 → m ≡ get_or list 2 0 → head_passes k n m ≡ true →
-    length list ≡ 3 + n + m + 5 * (n * m) → HoursPass list (n + m) → PairsPass list n m → form ticket read_head list ≡ Numbers list
+    length list ≡ 3 + n + m + 5 * (n * m) → HoursPass list (n + m) → PairsPass list n m → form ticket read_head list ≡ Ok list
 ticket_whole [] k n m ek en em head l hours pairs = absurd (omega arith)
 ticket_whole (a ∷ []) k n m ek en em head l hours pairs = absurd (omega arith)
 ticket_whole (a ∷ b ∷ []) k n m ek en em head l hours pairs = absurd (omega arith)
@@ -206,24 +207,24 @@ all_fit_small : (list : List ℕ) → AllFit list → (i : ℕ) → get_or list 
 all_fit_small list fit i =
     ⊎_elim (λ h. fit i h) (λ h. rw (get_or-eq_default list 0 {n = i} h) (lit< tt)) (lt_or_le i (length list))
 
-settlement_whole : (n m : ℕ) (list : List ℕ) → length list ≡ 3 + 3 * (n * m) → settlement_fault n m 0 (get_or list 0 0) ≡ 0 →
-    settlement_fault n m 1 (get_or list 1 0) ≡ 0 → settlement_fault n m 2 (get_or list 2 0) ≡ 0 → AllFit list →
-    form (settlement n m) read_head list ≡ Numbers list
+settlement_whole : (n m : ℕ) (list : List ℕ) → length list ≡ 3 + 3 * (n * m) → settlement_fault n m 0 (get_or list 0 0) ≡ Ok tt →
+    settlement_fault n m 1 (get_or list 1 0) ≡ Ok tt → settlement_fault n m 2 (get_or list 2 0) ≡ Ok tt → AllFit list →
+    form (settlement n m) read_head list ≡ Ok list
 settlement_whole n m list l kind growers pilots fit =
     accepts_form (settlement n m) read_head list list
     (settlement_accepts n m list
     (record {
       count = l;
-      kind = eqb-true _ 2 (must_holds _ settlement_refusals.kind (lit< tt) (settlement_passes_lem n m 0 (get_or list 0 0) kind).1);
-      growers = eqb-true _ n (must_holds _ settlement_refusals.parties (lit< tt) (settlement_passes_lem n m 1 (get_or list 1 0) growers).1);
-      pilots = eqb-true _ m (must_holds _ settlement_refusals.parties (lit< tt) (settlement_passes_lem n m 2 (get_or list 2 0) pilots).1);
+      kind = eqb-true _ 2 (must_holds _ settlement_refusals.kind (settlement_passes_lem n m 0 (get_or list 0 0) kind).1);
+      growers = eqb-true _ n (must_holds _ settlement_refusals.parties (settlement_passes_lem n m 1 (get_or list 1 0) growers).1);
+      pilots = eqb-true _ m (must_holds _ settlement_refusals.parties (settlement_passes_lem n m 2 (get_or list 2 0) pilots).1);
       small = all_fit_small list fit;
     }))
     (head_whole list)
 
 -- A list that passes is a document, whole.
 pub passes_whole : (document : Document) (list : List ℕ) → passes_as document list ≡ true →
-    form (form_of document) read_head list ≡ Numbers list
+    form (form_of document) read_head list ≡ Ok list
 passes_whole Document.Ticket list e =
     let n = get_or list 1 0 in
     let m = get_or list 2 0 in
@@ -234,14 +235,14 @@ passes_whole Document.Ticket list e =
     ticket_whole list _ _ _ refl refl refl start.1 (eqb-true _ _ start.0) (hours_pass_lem list (n + m) body.0)
     (pairs_pass_lem list n m body.1)
 passes_whole (Document.Settlement n m) list e =
-    let kind = eqb (settlement_fault n m 0 (get_or list 0 0)) 0 in
-    let growers = eqb (settlement_fault n m 1 (get_or list 1 0)) 0 in
-    let pilots = eqb (settlement_fault n m 2 (get_or list 2 0)) 0 in
+    let kind = is_ok (settlement_fault n m 0 (get_or list 0 0)) in
+    let growers = is_ok (settlement_fault n m 1 (get_or list 1 0)) in
+    let pilots = is_ok (settlement_fault n m 2 (get_or list 2 0)) in
     let count = eqb (length list) (3 + 3 * (n * m)) in
     let all = both_hold (leb n 16 && leb m 16 && count) (kind && growers && pilots && all_fit list) e in
     let start = both_hold (leb n 16 && leb m 16) count all.0 in
     let t₂ = both_hold (kind && growers && pilots) (all_fit list) all.1 in
     let t₁ = both_hold (kind && growers) pilots t₂.0 in
     let t₀ = both_hold kind growers t₁.0 in
-    settlement_whole n m list (eqb-true _ _ start.1) (eqb-true _ 0 t₀.0) (eqb-true _ 0 t₀.1) (eqb-true _ 0 t₁.1)
+    settlement_whole n m list (eqb-true _ _ start.1) (is_ok-true _ t₀.0) (is_ok-true _ t₀.1) (is_ok-true _ t₁.1)
     (all_fit_lem list t₂.1)

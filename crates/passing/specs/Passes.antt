@@ -1,5 +1,5 @@
 -- The quick test of a list: what it looks at, and what it answers.
-use Rattle.std.specs.Prelude.{Bool, false, ◌||◌, ◌&&◌, List, ℕ, ◌+◌, ◌*◌, ◌^◌, leb, ltb, eqb, length, get_or}
+use Rattle.std.specs.Prelude.{Bool, false, ◌||◌, ◌&&◌, List, ℕ, ◌+◌, ◌*◌, ◌^◌, leb, ltb, eqb, is_ok, length, get_or}
 use Rattle.grid.specs.Every.{every}
 use Rattle.groups.specs.Groups.{groups}
 use Rattle.checks.specs.declared.refusals.Document.{Document}
@@ -10,10 +10,10 @@ use Rattle.checks.specs.SettlementFaults.{settlement_fault}
 -- Of a ticket's list: the first three numbers, everybody's hours, five numbers from a place on, the pairs of grower i from a place on,
 -- and all pairs.
 abbrev pub head_passes : ℕ → ℕ → ℕ → Bool
-head_passes kind n m = eqb (fault_of Kind 0 false kind) 0 && eqb (fault_of Growers 0 false n) 0 && eqb (fault_of Pilots 0 false m) 0
+head_passes kind n m = is_ok (fault_of Kind 0 false kind) && is_ok (fault_of Growers 0 false n) && is_ok (fault_of Pilots 0 false m)
 
 abbrev pub hours_pass : List ℕ → ℕ → Bool
-hours_pass list parties = every (λ k. eqb (fault_of Hours 0 false (get_or list (3 + k) 0)) 0) parties
+hours_pass list parties = every (λ k. is_ok (fault_of Hours 0 false (get_or list (3 + k) 0))) parties
 
 abbrev pub pair_passes_at : Bool → List ℕ → ℕ → Bool
 pair_passes_at none list p =
@@ -41,8 +41,8 @@ all_fit list = every (λ k. ltb (get_or list k 0) (128 ^ groups)) (length list)
 abbrev pub settlement_passes : (n m : ℕ) → List ℕ → Bool
 settlement_passes n m list =
     leb n 16 && leb m 16 && eqb (length list) (3 + 3 * (n * m)) &&
-    (eqb (settlement_fault n m 0 (get_or list 0 0)) 0 && eqb (settlement_fault n m 1 (get_or list 1 0)) 0 &&
-    eqb (settlement_fault n m 2 (get_or list 2 0)) 0 && all_fit list)
+    (is_ok (settlement_fault n m 0 (get_or list 0 0)) && is_ok (settlement_fault n m 1 (get_or list 1 0)) &&
+    is_ok (settlement_fault n m 2 (get_or list 2 0)) && all_fit list)
 
 -- Whether a list passes as a document.
 abbrev pub passes_as : Document → List ℕ → Bool

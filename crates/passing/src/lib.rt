@@ -15,9 +15,9 @@ use numbers::index;
 fn head_passes(kind: usize, growers: usize, pilots: usize) -> bool
     ensures { result ≡ head_passes kind growers pilots }
 {
-    (fault_of(Field::Kind, 0, false, kind) == 0)
-        & (fault_of(Field::Growers, 0, false, growers) == 0)
-        & (fault_of(Field::Pilots, 0, false, pilots) == 0)
+    fault_of(Field::Kind, 0, false, kind).is_ok()
+        & fault_of(Field::Growers, 0, false, growers).is_ok()
+        & fault_of(Field::Pilots, 0, false, pilots).is_ok()
 }
 
 // Whether nobody's hours have a fault.
@@ -25,12 +25,12 @@ fn hours_pass(list: &[u16], parties: usize) -> bool
     requires { 3 + parties ≤ length list.now }
     ensures { result ≡ hours_pass list.now parties }
 {
-    let mut pass = true;
-    for k in 0..parties {
-        let hours = index(list[HEAD + k]);
-        pass = pass & (fault_of(Field::Hours, 0, false, hours) == 0);
-    }
-    pass
+    list[HEAD..HEAD + parties].iter().all(|&hours| fault_of(
+        Field::Hours,
+        0,
+        false,
+        index(hours),
+    ).is_ok())
 }
 
 // Whether the five numbers from a place on have no fault.
@@ -99,11 +99,7 @@ fn ticket_passes(list: &[u16]) -> bool
 fn all_fit(list: &[u16]) -> bool
     ensures { result ≡ all_fit list.now }
 {
-    let mut pass = true;
-    for k in 0..list.len() {
-        pass = pass & fits(index(list[k]));
-    }
-    pass
+    list.iter().all(|&x| fits(index(x)))
 }
 
 // No settlement of more growers or pilots than a square has room for passes.
@@ -119,9 +115,9 @@ fn settlement_passes(growers: usize, pilots: usize, list: &[u16]) -> bool
     if list.len() != HEAD + 3 * numbers::pairs(growers, pilots) {
         return false;
     }
-    (settlement_fault(growers, pilots, 0, index(list[0])) == 0)
-        & (settlement_fault(growers, pilots, 1, index(list[1])) == 0)
-        & (settlement_fault(growers, pilots, 2, index(list[2])) == 0)
+    settlement_fault(growers, pilots, 0, index(list[0])).is_ok()
+        & settlement_fault(growers, pilots, 1, index(list[1])).is_ok()
+        & settlement_fault(growers, pilots, 2, index(list[2])).is_ok()
         & all_fit(list)
 }
 

@@ -18,7 +18,7 @@ use Rattle.checks.specs.Refusals.{refusals_of, settlement_refusals}
 use Rattle.checks.proofs.FaultLaws.{must_holds, party_range, settlement_passes_lem}
 use Rattle.groups.specs.Groups.{Read, Number, Ends, TooLong, Padded, Bytes, groups, encode, pack, bytes}
 use Rattle.groups.proofs.GroupLaws.{read_encodes}
-use Rattle.scanning.proofs.Running.{bytes-ending}
+use Rattle.scanning.specs.Sources.{bytes-ending}
 use Rattle.documents.specs.declared.State.{State}
 use Rattle.documents.specs.Walk.{Taken, Refused, Took, Refusal, Numbers, Gives, read_head, met, unless, with, next, closed, final, walk}
 use Rattle.documents.specs.Walk.{rest, form}

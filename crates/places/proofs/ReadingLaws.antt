@@ -12,7 +12,7 @@ use Rattle.groups.specs.declared.Got.{Got}
 use Rattle.groups.specs.Groups.{Read, Number, Ends, TooLong, Padded, Bytes, groups, encode, pack, bytes, placed}
 use Rattle.groups.proofs.Ends.{EndOf, end_trans, end_place}
 use Rattle.groups.proofs.GroupLaws.{read_encodes, three_groups_short}
-use Rattle.scanning.proofs.Running.{bytes-ending}
+use Rattle.scanning.specs.Sources.{bytes-ending}
 use Rattle.checks.specs.declared.refusals.Document.{Document}
 use Rattle.places.specs.Places.{place_in, number_then, numbers_in, most_numbers, numbers_at_front, number_of, beginning_of}
 

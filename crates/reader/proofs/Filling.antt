@@ -1,4 +1,6 @@
 -- The numbers of an accepted document written into a lent list, one at each turn, and the whole answer put together.
+use Rattle.std.specs.Prelude.{Ok, Err}
+use Rattle.checks.specs.declared.refusals.Refusal.{Refusal}
 use mathlib.Core.Path.{◌≡◌, refl, sym, ap, ◌∙◌}
 use mathlib.Core.List.{List, [], ◌∷◌}
 use Prim.Native.Nat.{ℕ, zero, suc, ◌+◌, ◌-◌, ◌≤◌, ◌<◌}
@@ -11,11 +13,8 @@ use lib.Seq.{sets, drop-cons, length-take-le}
 use Rattle.checks.specs.declared.refusals.Document.{Document}
 use Rattle.documents.specs.declared.State.{State}
 use Rattle.groups.specs.declared.Got.{Got}
-use Rattle.scanning.specs.declared.Scanned.{Scanned}
-use Rattle.reader.specs.declared.Reply.{Reply}
-use Rattle.checks.specs.Refusals.{no_room}
 use Rattle.groups.specs.Groups.{Read, Number, Ends, TooLong, Padded, bytes, placed}
-use Rattle.documents.specs.Walk.{Outcome, Refusal, Numbers, read_head, form}
+use Rattle.documents.specs.Walk.{Outcome, read_head, form}
 use Rattle.documents.specs.State.{start}
 use Rattle.documents.specs.Layout.{after_in, form_of}
 use Rattle.scanning.specs.Runs.{scanned}
@@ -27,16 +26,16 @@ use Rattle.groups.proofs.Ends.{EndOf, end_trans, end_place}
 use Rattle.reader.proofs.Telling.{refuses, counts}
 use Rattle.documents.proofs.WalkLaws.{Good, form_accepts, accepts_form}
 use Rattle.documents.proofs.LayoutLaws.{number_small}
-use Rattle.scanning.proofs.Running.{bytes-ending}
+use Rattle.scanning.specs.Sources.{bytes-ending}
 
 -- The numbers of an outcome.
 abbrev pub listed : Outcome → List ℕ
-listed (Refusal w) = []
-listed (Numbers xs) = xs
+listed (Err w) = []
+listed (Ok xs) = xs
 
-whole_listed : (o : Outcome) (k : ℕ) → Scanned.Whole k ≡ scanned o → (o ≡ Numbers (listed o)) × (k ≡ length (listed o))
-whole_listed (Refusal w) k e = never cc
-whole_listed (Numbers xs) k e = (refl, cc)
+whole_listed : (o : Outcome) (k : ℕ) → Ok k ≡ scanned o → (o ≡ Ok (listed o)) × (k ≡ length (listed o))
+whole_listed (Err w) k e = never cc
+whole_listed (Ok xs) k e = (refl, cc)
 
 good_words : (p : Document) (s : State) (xs : List ℕ) → Good (form_of p) s xs → (i : ℕ) → get_or xs i 0 < 65536
 good_words p s [] g i = lit< tt
@@ -50,7 +49,7 @@ first-given s [] b g = refl
 first-given s (x ∷ xs) b g = rw g.1 (ap (λ (l : List ℕ). x ∷ l) (first-given g.0 xs b g.2))
 
 -- Bytes that were scanned can be filled in.
-pub scanned_fills : (p : Document) (s : List ℕ) (k : ℕ) → Scanned.Whole k ≡ scanned (form (form_of p) bytes s) →
+pub scanned_fills : (p : Document) (s : List ℕ) (k : ℕ) → Ok k ≡ scanned (form (form_of p) bytes s) →
     Fillable s k × (first_numbers k s ≡ listed (form (form_of p) bytes s))
 scanned_fills p s k e =
     let xs = listed (form (form_of p) bytes s) in
@@ -136,38 +135,38 @@ pub copying_ends : (xs lent list : List ℕ) (k : ℕ) → Copying xs lent list 
 copying_ends xs lent list k r h = rw (drop_of_length-le xs h) at r.same
 
 -- The whole answer from that of the scan.
-pub reply_refused : (o : Outcome) (lent : List ℕ) (w : ℕ) → Scanned.Refused w ≡ scanned o →
-    Tells (Reply.Refused w) (length lent) o × (lent ≡ kept lent o)
-reply_refused (Refusal v) lent w e = let d : w ≡ v = cc in (refuses _ v (ap Reply.Refused d), refl)
-reply_refused (Numbers xs) lent w e = never cc
+pub reply_refused : (o : Outcome) (lent : List ℕ) (w : Refusal) → Err w ≡ scanned o →
+    Tells (Err w) (length lent) o × (lent ≡ kept lent o)
+reply_refused (Err v) lent w e = let d : w ≡ v = cc in (refuses _ v (ap Err d), refl)
+reply_refused (Ok xs) lent w e = never cc
 
-pub reply_short : (o : Outcome) (lent : List ℕ) (k : ℕ) → Scanned.Whole k ≡ scanned o → length lent < k →
-    Tells (Reply.Refused no_room) (length lent) o × (lent ≡ kept lent o)
-reply_short (Refusal v) lent k e h = never cc
-reply_short (Numbers xs) lent k e h =
+pub reply_short : (o : Outcome) (lent : List ℕ) (k : ℕ) → Ok k ≡ scanned o → length lent < k →
+    Tells (Err Refusal.NoRoom) (length lent) o × (lent ≡ kept lent o)
+reply_short (Err v) lent k e h = never cc
+reply_short (Ok xs) lent k e h =
     let n : k ≡ length xs = cc in
     let l = lt-leb (length xs) (length lent) (omega arith) in
-    (rw l (refuses _ no_room refl), rw l)
+    (rw l (refuses _ Refusal.NoRoom refl), rw l)
 
-pub reply_done : (o : Outcome) (lent list : List ℕ) (k : ℕ) → Scanned.Whole k ≡ scanned o → k ≤ length lent → list ≡ sets lent 0 (listed o) →
-    Tells (Reply.Done k) (length lent) o × (list ≡ kept lent o)
-reply_done (Refusal v) lent list k e h f = never cc
-reply_done (Numbers xs) lent list k e h f =
-    let n : k ≡ length xs = cc in let l = le-leb (length xs) (length lent) (omega arith) in (rw l (counts _ (length xs) (ap Reply.Done n)), rw l f)
+pub reply_done : (o : Outcome) (lent list : List ℕ) (k : ℕ) → Ok k ≡ scanned o → k ≤ length lent → list ≡ sets lent 0 (listed o) →
+    Tells (Ok k) (length lent) o × (list ≡ kept lent o)
+reply_done (Err v) lent list k e h f = never cc
+reply_done (Ok xs) lent list k e h f =
+    let n : k ≡ length xs = cc in let l = le-leb (length xs) (length lent) (omega arith) in (rw l (counts _ (length xs) (ap Ok n)), rw l f)
 
-pub reply-filled : (p : Document) (s lent list : List ℕ) (k : ℕ) → Scanned.Whole k ≡ scanned (form (form_of p) bytes s) → k ≤ length lent →
+pub reply-filled : (p : Document) (s lent list : List ℕ) (k : ℕ) → Ok k ≡ scanned (form (form_of p) bytes s) → k ≤ length lent →
     list ≡ sets lent 0 (first_numbers k s) →
-    Tells (Reply.Done k) (length lent) (form (form_of p) bytes s) × (list ≡ kept lent (form (form_of p) bytes s))
+    Tells (Ok k) (length lent) (form (form_of p) bytes s) × (list ≡ kept lent (form (form_of p) bytes s))
 reply-filled p s lent list k e h f = reply_done (form (form_of p) bytes s) lent list k e h (f ∙ ap (sets lent 0) (scanned_fills p s k e).1)
 
--- Numbers that bytes give, whole, and that are accepted as a list, are those of the bytes.
+-- Ok that bytes give, whole, and that are accepted as a list, are those of the bytes.
 pub record Decoded (p : Document) (s xs : List ℕ) (count : ℕ) : Type 0 where
-  pub whole : form (form_of p) bytes s ≡ Numbers xs
+  pub whole : form (form_of p) bytes s ≡ Ok xs
   pub long : length xs ≡ count
 
 pub decoded : (p : Document) (s own xs : List ℕ) (count : ℕ) →
     (0 < count → (count ≤ length own) × Gives bytes s (take count own) []) → xs ≡ take count own →
-    form (form_of p) read_head xs ≡ Numbers xs → Decoded p s xs count
+    form (form_of p) read_head xs ≡ Ok xs → Decoded p s xs count
 decoded p s own xs zero gives e f =
     let a = (form_accepts (form_of p) read_head xs xs f).0 in absurd (omega (arith, a.count, ap length e))
 decoded p s own xs (suc k) gives e f =
@@ -177,13 +176,13 @@ decoded p s own xs (suc k) gives e f =
     }
 
 module _ {p : Document} {s xs : List ℕ} {count : ℕ} (d : Decoded p s xs count) (lent : List ℕ) where
-  counts_them : Scanned.Whole count ≡ scanned (form (form_of p) bytes s)
-  counts_them = rw d.whole (ap Scanned.Whole (sym d.long))
+  counts_them : Ok count ≡ scanned (form (form_of p) bytes s)
+  counts_them = rw d.whole (ap Ok (sym d.long))
 
   pub decoded_short : length lent < count →
-      Tells (Reply.Refused no_room) (length lent) (form (form_of p) bytes s) × (lent ≡ kept lent (form (form_of p) bytes s))
+      Tells (Err Refusal.NoRoom) (length lent) (form (form_of p) bytes s) × (lent ≡ kept lent (form (form_of p) bytes s))
   decoded_short h = reply_short (form (form_of p) bytes s) lent count counts_them h
 
   pub decoded_done : (list : List ℕ) → count ≤ length lent → list ≡ sets lent 0 xs →
-      Tells (Reply.Done count) (length lent) (form (form_of p) bytes s) × (list ≡ kept lent (form (form_of p) bytes s))
+      Tells (Ok count) (length lent) (form (form_of p) bytes s) × (list ≡ kept lent (form (form_of p) bytes s))
   decoded_done list h f = reply_done (form (form_of p) bytes s) lent list count counts_them h (rw d.whole f)

@@ -1,4 +1,6 @@
 -- An accepted list packed into a lent buffer, a number at each turn, and the whole answer put together.
+use Rattle.std.specs.Prelude.{Result, Ok, Err}
+use Rattle.checks.specs.declared.refusals.Refusal.{Refusal}
 use mathlib.Core.Path.{◌≡◌, refl, sym, ap, ◌∙◌}
 use mathlib.Core.List.{List, [], ◌∷◌, ◌++◌}
 use Prim.Native.Nat.{ℕ, suc, ◌+◌, ◌≤◌, ◌<◌}
@@ -10,11 +12,8 @@ use lib.Dec.{lit<}
 use lib.ListN.{length, get_or, take, set, drop, length-append, drop_of_length-le}
 use lib.Seq.{sets, length-sets, drop-cons}
 use Rattle.checks.specs.declared.refusals.Document.{Document}
-use Rattle.scanning.specs.declared.Scanned.{Scanned}
-use Rattle.reader.specs.declared.Reply.{Reply}
-use Rattle.checks.specs.Refusals.{no_room}
 use Rattle.groups.specs.Groups.{encode, groups, pack}
-use Rattle.documents.specs.Walk.{Outcome, Refusal, Numbers, read_head, final, form}
+use Rattle.documents.specs.Walk.{Outcome, read_head, final, form}
 use Rattle.documents.specs.State.{start}
 use Rattle.documents.specs.Layout.{form_of}
 use Rattle.scanning.specs.Runs.{scanned}
@@ -28,24 +27,24 @@ use Rattle.documents.proofs.LayoutLaws.{number_small, start_known, known_final, 
 
 -- An accepted list is its own numbers, and its bytes are few enough to count.
 pub record Packs (p : Document) (list : List ℕ) : Type 0 where
-  pub same : form (form_of p) read_head list ≡ Numbers list
+  pub same : form (form_of p) read_head list ≡ Ok list
   pub short : length (pack list) ≤ most_bytes
 
-whole_numbers : (o : Outcome) (k : ℕ) → Scanned.Whole k ≡ scanned o → (xs : List ℕ) × (o ≡ Numbers xs)
-whole_numbers (Refusal w) k e = never cc
-whole_numbers (Numbers xs) k e = (xs, refl)
+whole_numbers : (o : Outcome) (k : ℕ) → Ok k ≡ scanned o → (xs : List ℕ) × (o ≡ Ok xs)
+whole_numbers (Err w) k e = never cc
+whole_numbers (Ok xs) k e = (xs, refl)
 
 accepted_short : (p : Document) (xs : List ℕ) → Accepted (form_of p) xs → length (pack xs) ≤ most_bytes
 accepted_short p xs a =
     let k = known_final p start (take 3 xs) start_known (good_take (form_of p) start 3 xs a.good) in
     omega (arith, a.count, body_few p (final (form_of p) start (take 3 xs)) k, good_short p start xs a.good)
 
-pub packs : (p : Document) (list : List ℕ) (k : ℕ) → Scanned.Whole k ≡ scanned (form (form_of p) read_head list) → Packs p list
+pub packs : (p : Document) (list : List ℕ) (k : ℕ) → Ok k ≡ scanned (form (form_of p) read_head list) → Packs p list
 packs p list k e =
     let t = whole_numbers (form (form_of p) read_head list) k e in
     let l = (packed_unpacks (form_of p) groups (lit< tt) (number_small p) list t.0 t.1).0 in
     record {
-      same = t.1 ∙ ap Numbers (sym l);
+      same = t.1 ∙ ap Ok (sym l);
       short = rw l (accepted_short p t.0 (form_accepts (form_of p) read_head list t.0 t.1).0);
     }
 
@@ -113,18 +112,18 @@ pub summing_ends : (list : List ℕ) (k total : ℕ) → Summing list k total �
 summing_ends list k total r h = omega (arith, rw (drop_of_length-le list h) at r.ends)
 
 -- The whole answer from that of the check.
-abbrev pub Answers : List ℕ → Outcome → Reply → List ℕ → Type 0
+abbrev pub Answers : List ℕ → Outcome → Result ℕ Refusal → List ℕ → Type 0
 Answers lent o r out = Tells r (length lent) (packed_as o) × (out ≡ kept lent (packed_as o))
 
-pub pack_refused : (o : Outcome) (lent : List ℕ) (w : ℕ) → Scanned.Refused w ≡ scanned o → Answers lent o (Reply.Refused w) lent
-pack_refused (Refusal v) lent w e = let d : w ≡ v = cc in (refuses _ v (ap Reply.Refused d), refl)
-pack_refused (Numbers xs) lent w e = never cc
+pub pack_refused : (o : Outcome) (lent : List ℕ) (w : Refusal) → Err w ≡ scanned o → Answers lent o (Err w) lent
+pack_refused (Err v) lent w e = let d : w ≡ v = cc in (refuses _ v (ap Err d), refl)
+pack_refused (Ok xs) lent w e = never cc
 
 pub pack_short : (p : Document) (list lent : List ℕ) → Packs p list → length lent < length (pack list) →
-    Answers lent (form (form_of p) read_head list) (Reply.Refused no_room) lent
-pack_short p list lent a h = let l = lt-leb (length (pack list)) (length lent) h in rw a.same (rw l (refuses _ no_room refl), rw l)
+    Answers lent (form (form_of p) read_head list) (Err Refusal.NoRoom) lent
+pack_short p list lent a h = let l = lt-leb (length (pack list)) (length lent) h in rw a.same (rw l (refuses _ Refusal.NoRoom refl), rw l)
 
 pub pack_done : (p : Document) (list lent out : List ℕ) (n : ℕ) → Packs p list → n ≡ length (pack list) → n ≤ length lent →
-    out ≡ sets lent 0 (pack list) → Answers lent (form (form_of p) read_head list) (Reply.Done n) out
+    out ≡ sets lent 0 (pack list) → Answers lent (form (form_of p) read_head list) (Ok n) out
 pack_done p list lent out n a e h f =
-    let l = le-leb (length (pack list)) (length lent) (omega arith) in rw a.same (rw l (counts _ _ (ap Reply.Done e)), rw l f)
+    let l = le-leb (length (pack list)) (length lent) (omega arith) in rw a.same (rw l (counts _ _ (ap Ok e)), rw l f)

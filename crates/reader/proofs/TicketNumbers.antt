@@ -1,5 +1,6 @@
 -- What the numbers of a ticket have to be, in one record: an unpacked ticket is so, and numbers that are so are packed and unpacked again.
 -- Whoever changes a ticket's numbers shows that they stay so.
+use Rattle.std.specs.Prelude.{Ok}
 use mathlib.Core.Path.{◌≡◌, refl}
 use mathlib.Core.Bool.{Bool, true, false, ◌||◌}
 use mathlib.Core.Logic.{◌⊎◌, inl, inr}
@@ -12,7 +13,7 @@ use lib.ListN.{length, get_or}
 use Rattle.checks.specs.TicketFaults.{pair_passes}
 use Rattle.checks.proofs.FaultLaws.{amount_clear, cap_clear, cap-none}
 use Rattle.groups.specs.Groups.{pack}
-use Rattle.documents.specs.Walk.{Numbers, read_head, form}
+use Rattle.documents.specs.Walk.{read_head, form}
 use Rattle.documents.specs.Layout.{ticket}
 use Rattle.reader.specs.Answer.{unpacked, packed}
 use Rattle.passing.specs.Passes.{head_passes}
@@ -39,7 +40,7 @@ pub record Within (xs : List ℕ) (n m : ℕ) : Type 0 where
 abbrev pub Passing : List ℕ → Type 0
 Passing xs = Within xs (get_or xs 1 0) (get_or xs 2 0)
 
-pub unpacked_passing : (s xs : List ℕ) → unpacked s ≡ Numbers xs → Passing xs
+pub unpacked_passing : (s xs : List ℕ) → unpacked s ≡ Ok xs → Passing xs
 unpacked_passing s xs e =
     let h = unpacked_shape s xs e in
     record {
@@ -92,12 +93,12 @@ module _ (xs : List ℕ) (p : Passing xs) where
       let e : 3 + n + m + 5 * (i * m) + 5 * j ≡ pair_start n m i j = omega arith in
       rw e (deal_passes _ _ _ _ _ _ (p.deal i j hi hj) (λ z. p.none i j hi hj (which_zero _ _ z)))
 
-  pub passing_whole : form ticket read_head xs ≡ Numbers xs
+  pub passing_whole : form ticket read_head xs ≡ Ok xs
   passing_whole =
       ticket_whole xs _ _ _ refl refl refl head p.count (λ k h. rw (le-leb (get_or xs (3 + k) 0) 60 (p.hours k h))) pairs
 
-  pub passing_packed : packed xs ≡ Numbers (pack xs)
+  pub passing_packed : packed xs ≡ Ok (pack xs)
   passing_packed = rw passing_whole
 
-  pub passing_unpacked : unpacked (pack xs) ≡ Numbers xs
+  pub passing_unpacked : unpacked (pack xs) ≡ Ok xs
   passing_unpacked = packed-unpacked xs (pack xs) passing_packed

@@ -1,10 +1,11 @@
 -- What the four operations answer, and what they leave in the lent list or buffer.
+use Rattle.std.specs.Prelude.{Result, Ok, Err}
+use Rattle.checks.specs.declared.refusals.Refusal.{Refusal}
 use Rattle.std.specs.Prelude.{cond, List, ℕ, leb, length}
 use Rattle.std.proofs.lemmas.List.Edits.{sets}
-use Rattle.reader.specs.declared.Reply.{Reply}
-use Rattle.checks.specs.Refusals.{no_room}
+use Rattle.checks.specs.Refusals.{number_of}
 use Rattle.groups.specs.Groups.{bytes, pack}
-use Rattle.documents.specs.Walk.{Outcome, Refusal, Numbers, read_head, form}
+use Rattle.documents.specs.Walk.{Outcome, read_head, form}
 use Rattle.documents.specs.Layout.{ticket, settlement}
 use Rattle.reader.specs.Values.{Values, refused_with, done_with, Replied}
 
@@ -14,8 +15,8 @@ unpacked s = form ticket bytes s
 
 -- The bytes of the numbers that were accepted.
 abbrev pub packed_as : Outcome → Outcome
-packed_as (Refusal w) = Refusal w
-packed_as (Numbers xs) = Numbers (pack xs)
+packed_as (Err w) = Err w
+packed_as (Ok xs) = Ok (pack xs)
 
 -- A ticket's numbers as bytes.
 abbrev pub packed : List ℕ → Outcome
@@ -29,25 +30,25 @@ abbrev pub settlement_packed : ℕ → ℕ → List ℕ → Outcome
 settlement_packed n m list = packed_as (form (settlement n m) read_head list)
 
 -- The answer before the lent list is looked at.
-abbrev pub counted : Outcome → Reply
-counted (Refusal w) = Reply.Refused w
-counted (Numbers xs) = Reply.Done (length xs)
+abbrev pub counted : Outcome → Result ℕ Refusal
+counted (Err w) = Err w
+counted (Ok xs) = Ok (length xs)
 
 -- The answer where `room` places are lent: a lack of room is the last refusal.
-abbrev pub reply : ℕ → Outcome → Reply
-reply room (Refusal w) = Reply.Refused w
-reply room (Numbers xs) = cond (leb (length xs) room) (Reply.Done (length xs)) (Reply.Refused no_room)
+abbrev pub reply : ℕ → Outcome → Result ℕ Refusal
+reply room (Err w) = Err w
+reply room (Ok xs) = cond (leb (length xs) room) (Ok (length xs)) (Err Refusal.NoRoom)
 
 -- The same on paper.
 abbrev pub reply_on_paper : ℕ → Outcome → Values
-reply_on_paper room (Refusal w) = refused_with w
-reply_on_paper room (Numbers xs) = cond (leb (length xs) room) (done_with (length xs)) (refused_with no_room)
+reply_on_paper room (Err w) = refused_with (number_of w)
+reply_on_paper room (Ok xs) = cond (leb (length xs) room) (done_with (length xs)) (refused_with (number_of Refusal.NoRoom))
 
 -- The reply tells the outcome, in code and on paper.
-abbrev pub Tells : Reply → ℕ → Outcome → Type 0
+abbrev pub Tells : Result ℕ Refusal → ℕ → Outcome → Type 0
 Tells r room o = Replied r (reply room o) (reply_on_paper room o)
 
 -- The lent list after it: as it was, or with the numbers at its front.
 abbrev pub kept : List ℕ → Outcome → List ℕ
-kept lent (Refusal w) = lent
-kept lent (Numbers xs) = cond (leb (length xs) (length lent)) (sets lent 0 xs) lent
+kept lent (Err w) = lent
+kept lent (Ok xs) = cond (leb (length xs) (length lent)) (sets lent 0 xs) lent

@@ -8,13 +8,12 @@ ghost use Rattle.scanning.specs.Runs.{scanned};
 ghost use Rattle.reader.specs.Steps.{most_bytes, first_numbers, Fillable};
 ghost use Rattle.reader.specs.Answer.{packed_as, Tells, kept};
 
-use crate::Reply;
-use checks::{Document, NO_ROOM};
+use checks::{Document, Refusal};
 use decoding::decode;
 use groups::{Got, number, size};
 use numbers::{front, index};
 use passing::passes;
-use scanning::{Scanned, SourceKind, scan};
+use scanning::scan;
 
 // Room for the numbers of as many bytes as the longest ticket has. A longer file is read number by number.
 fn room() -> [u16; 2083] {
@@ -44,8 +43,8 @@ fn size_all(list: &[u16]) -> usize
     ensures { result ≡ length (pack list.now) }
 {
     let mut total: usize = 0;
-    for k in 0..list.len() {
-        total = total + size(list[k]);
+    for &x in list {
+        total = total + size(x);
     }
     total
 }
@@ -72,27 +71,22 @@ fn write_all(list: &[u16], out: &mut [u8])
     ensures { out.new ≡ sets out.old 0 (pack list.now) }
 {
     let mut here: usize = 0;
-    for k in 0..list.len() {
-        here = write(index(list[k]), out, here);
+    for &x in list {
+        here = write(index(x), out, here);
     }
 }
 
 // A document's bytes into a lent list, number by number.
-fn receive_each(document: Document, s: &[u8], list: &mut [u16]) -> Reply
+fn receive_each(document: Document, s: &[u8], list: &mut [u16]) -> Result<usize, Refusal>
     ensures tells { Tells result (length list.old) (form (form_of document) bytes s.now) }
     ensures list_after { list.new ≡ kept list.old (form (form_of document) bytes s.now) }
 {
-    let seen = scan(document, SourceKind::Bytes, s, list);
-    match seen {
-        Scanned::Refused { why } => Reply::Refused { why },
-        Scanned::Whole { count } => {
-            if list.len() < count {
-                return Reply::Refused { why: NO_ROOM };
-            }
-            fill(s, list, count);
-            Reply::Done { count }
-        }
+    let count = scan(document, s)?;
+    if list.len() < count {
+        return Err(Refusal::NoRoom);
     }
+    fill(s, list, count);
+    Ok(count)
 }
 
 // Writes numbers to the front of a list.
@@ -100,13 +94,11 @@ fn copy_front(numbers: &[u16], list: &mut [u16])
     requires { length numbers.now ≤ length list.old }
     ensures { list.new ≡ sets list.old 0 numbers.now }
 {
-    for k in 0..numbers.len() {
-        list[k] = numbers[k];
-    }
+    list[..numbers.len()].copy_from_slice(numbers);
 }
 
 // A document's bytes into a lent list: decoded into room of our own, where what is decoded passes the quick test, else number by number.
-pub(crate) fn receive(document: Document, s: &[u8], list: &mut [u16]) -> Reply
+pub(crate) fn receive(document: Document, s: &[u8], list: &mut [u16]) -> Result<usize, Refusal>
     ensures tells { Tells result (length list.old) (form (form_of document) bytes s.now) }
     ensures list_after { list.new ≡ kept list.old (form (form_of document) bytes s.now) }
 {
@@ -117,36 +109,31 @@ pub(crate) fn receive(document: Document, s: &[u8], list: &mut [u16]) -> Reply
     }
     if count <= list.len() {
         copy_front(front(&own, count), list);
-        return Reply::Done { count };
+        return Ok(count);
     }
-    Reply::Refused { why: NO_ROOM }
+    Err(Refusal::NoRoom)
 }
 
-// What a scan of a list answers, at once where the list passes the quick test. `unread` stands for the bytes that a scan could read.
-fn scan_list(document: Document, list: &[u16], unread: &[u8]) -> Scanned
+// What a scan of a list answers, at once where the list passes the quick test.
+fn scan_list(document: Document, list: &[u16]) -> Result<usize, Refusal>
     ensures { result ≡ scanned (form (form_of document) read_head list.now) }
 {
     if passes(document, list) {
-        return Scanned::Whole { count: list.len() };
+        return Ok(list.len());
     }
-    scan(document, SourceKind::List, unread, list)
+    scan(document, list)
 }
 
 // A document's list into a lent buffer.
-pub(crate) fn deliver(document: Document, list: &[u16], out: &mut [u8]) -> Reply
+pub(crate) fn deliver(document: Document, list: &[u16], out: &mut [u8]) -> Result<usize, Refusal>
     ensures tells { Tells result (length out.old) (packed_as (form (form_of document) read_head list.now)) }
     ensures out_after { out.new ≡ kept out.old (packed_as (form (form_of document) read_head list.now)) }
 {
-    let seen = scan_list(document, list, out);
-    match seen {
-        Scanned::Refused { why } => Reply::Refused { why },
-        Scanned::Whole { count: _ } => {
-            let written = size_all(list);
-            if out.len() < written {
-                return Reply::Refused { why: NO_ROOM };
-            }
-            write_all(list, out);
-            Reply::Done { count: written }
-        }
+    scan_list(document, list)?;
+    let written = size_all(list);
+    if out.len() < written {
+        return Err(Refusal::NoRoom);
     }
+    write_all(list, out);
+    Ok(written)
 }

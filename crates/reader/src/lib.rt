@@ -10,18 +10,11 @@ mod copy; // copy.rt: the passes that write, after a scan that refused nothing
 use checks::Document;
 use copy::{deliver, receive};
 
-// The refusal for a lent buffer that is too short.
-pub use checks::NO_ROOM;
-
-// What an operation answers: the refusal, or how many numbers or bytes it wrote.
-#[derive(Clone, Copy)]
-pub enum Reply {
-    Refused { why: u8 },
-    Done { count: usize },
-}
+// Why an operation is refused. One that is done answers how many numbers or bytes it wrote.
+pub use checks::Refusal;
 
 // Turns a ticket's bytes into its list of numbers, and returns their count.
-pub fn unpack(ticket: &[u8], list: &mut [u16]) -> Reply
+pub fn unpack(ticket: &[u8], list: &mut [u16]) -> Result<usize, Refusal>
     ensures tells { Tells result (length list.old) (unpacked ticket.now) }
     ensures list_after { list.new ≡ kept list.old (unpacked ticket.now) }
 {
@@ -29,7 +22,7 @@ pub fn unpack(ticket: &[u8], list: &mut [u16]) -> Reply
 }
 
 // Turns a list of numbers into a ticket's bytes, and returns their count.
-pub fn pack(list: &[u16], ticket: &mut [u8]) -> Reply
+pub fn pack(list: &[u16], ticket: &mut [u8]) -> Result<usize, Refusal>
     ensures tells { Tells result (length ticket.old) (packed list.now) }
     ensures ticket_after { ticket.new ≡ kept ticket.old (packed list.now) }
 {
@@ -37,7 +30,12 @@ pub fn pack(list: &[u16], ticket: &mut [u8]) -> Reply
 }
 
 // Turns the bytes of a settlement into its list of numbers. The settlement is that of a ticket with so many growers and pilots.
-pub fn read_settlement(settlement: &[u8], growers: usize, pilots: usize, list: &mut [u16]) -> Reply
+pub fn read_settlement(
+    settlement: &[u8],
+    growers: usize,
+    pilots: usize,
+    list: &mut [u16],
+) -> Result<usize, Refusal>
     ensures tells { Tells result (length list.old) (settlement_read growers pilots settlement.now) }
     ensures list_after { list.new ≡ kept list.old (settlement_read growers pilots settlement.now) }
 {
@@ -45,7 +43,12 @@ pub fn read_settlement(settlement: &[u8], growers: usize, pilots: usize, list: &
 }
 
 // Turns a list of numbers into the bytes of a settlement, and returns their count.
-pub fn write_settlement(list: &[u16], growers: usize, pilots: usize, settlement: &mut [u8]) -> Reply
+pub fn write_settlement(
+    list: &[u16],
+    growers: usize,
+    pilots: usize,
+    settlement: &mut [u8],
+) -> Result<usize, Refusal>
     ensures tells { Tells result (length settlement.old) (settlement_packed growers pilots list.now) }
     ensures settlement_after { settlement.new ≡ kept settlement.old (settlement_packed growers pilots list.now) }
 {

@@ -1,20 +1,14 @@
 // The two documents behind one state: what is wrong with a number at its place, the state after it, and how many numbers follow.
 ghost use Rattle.std.specs.Prelude.{◌≡◌, ◌+◌, ◌*◌, ◌<◌, ◌≤◌};
+ghost use Rattle.checks.specs.Refusals.{giving};
 ghost use Rattle.documents.specs.State.{start, passed, with_parties, with_hours, with_cap};
 ghost use Rattle.documents.specs.Layout.{fault_in, after_in, body_in};
 ghost use Rattle.documents.specs.Bounds.{Known, most_places, most_pairs};
 
 use crate::settlement::settlement_check;
 use crate::ticket::ticket_check;
-use checks::Document;
+use checks::{Document, Refusal};
 use documents::State;
-
-// A number looked at in a state: what is wrong with it, as a refusal number or 0 if nothing is, and the state after it.
-#[derive(Clone, Copy)]
-pub(crate) struct Checked {
-    pub(crate) why: u8,
-    pub(crate) after: State,
-}
 
 // The state before the first number.
 pub(crate) fn start() -> State
@@ -31,6 +25,7 @@ pub(crate) fn start() -> State
 }
 
 // The next place, with all that is known.
+#[inline(always)]
 pub(crate) fn passed(s: State) -> State
     requires { s.place < most_places }
     ensures { result ≡ passed s }
@@ -46,6 +41,7 @@ pub(crate) fn passed(s: State) -> State
 }
 
 // The same, with growers and pilots.
+#[inline(always)]
 pub(crate) fn with_parties(s: State, growers: usize, pilots: usize) -> State
     requires { s.place < most_places }
     ensures { result ≡ with_parties s growers pilots }
@@ -61,6 +57,7 @@ pub(crate) fn with_parties(s: State, growers: usize, pilots: usize) -> State
 }
 
 // The same, with who has no hours.
+#[inline(always)]
 pub(crate) fn with_hours(s: State, without: u32) -> State
     requires { s.place < most_places }
     ensures { result ≡ with_hours s without }
@@ -76,6 +73,7 @@ pub(crate) fn with_hours(s: State, without: u32) -> State
 }
 
 // The same, with a cap of a pair, and whether somebody of it has no hours.
+#[inline(always)]
 pub(crate) fn with_cap(s: State, none: bool, cap: usize) -> State
     requires { s.place < most_places }
     ensures { result ≡ with_cap s none cap }
@@ -91,10 +89,11 @@ pub(crate) fn with_cap(s: State, none: bool, cap: usize) -> State
 }
 
 // What is wrong with a number at a state's place, and the state after it.
-pub(crate) fn check(document: Document, s: State, x: usize) -> Checked
+#[inline(always)]
+pub(crate) fn check(document: Document, s: State, x: usize) -> Result<State, Refusal>
     requires known { Known s }
     requires place_lt_most_places { s.place < most_places }
-    ensures { (result.why ≡ fault_in document s x) × (result.after ≡ after_in document s x) }
+    ensures { result ≡ giving (fault_in document s x) (after_in document s x) }
 {
     match document {
         Document::Ticket => ticket_check(s, x),

@@ -1,14 +1,16 @@
 // The places of a settlement: kind, growers and pilots, and then three numbers of each pair, which have no range.
 ghost use Rattle.std.specs.Prelude.{◌≡◌, ◌<◌};
+ghost use Rattle.checks.specs.Refusals.{giving};
 ghost use Rattle.checks.specs.SettlementFaults.{settlement_fault};
 ghost use Rattle.documents.specs.Settlement.{settlement_after};
 ghost use Rattle.documents.specs.Bounds.{most_places};
 
-use crate::layout::{Checked, passed, with_parties};
-use checks::settlement_fault;
+use crate::layout::{passed, with_parties};
+use checks::{Refusal, settlement_fault};
 use documents::State;
 
 // The state after a number: its growers and pilots are kept.
+#[inline(always)]
 fn settlement_after(s: State, x: usize) -> State
     requires { s.place < most_places }
     ensures { result ≡ settlement_after s x }
@@ -23,13 +25,16 @@ fn settlement_after(s: State, x: usize) -> State
 }
 
 // What is wrong with a number at a state's place, and the state after it.
-pub(crate) fn settlement_check(growers: usize, pilots: usize, s: State, x: usize) -> Checked
+#[inline(always)]
+pub(crate) fn settlement_check(
+    growers: usize,
+    pilots: usize,
+    s: State,
+    x: usize,
+) -> Result<State, Refusal>
     requires { s.place < most_places }
-    ensures { (result.why ≡ settlement_fault growers pilots s.place x) × (result.after ≡ settlement_after s x) }
+    ensures { result ≡ giving (settlement_fault growers pilots s.place x) (settlement_after s x) }
 {
-    let after = settlement_after(s, x);
-    Checked {
-        why: settlement_fault(growers, pilots, s.place, x),
-        after,
-    }
+    settlement_fault(growers, pilots, s.place, x)?;
+    Ok(settlement_after(s, x))
 }

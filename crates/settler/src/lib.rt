@@ -11,7 +11,7 @@ ghost use Rattle.settler.specs.Numbers.{IsTicket, AnswersNumbers};
 use listing::list_settlement;
 use reader::{NO_ROOM, Reply};
 pub use squares::settle_squares;
-use tables::Quantity;
+use tables::{Quantity, Side};
 
 // The numbers of a sound settlement of the market that a ticket's numbers mean, whatever they are; of at most 16 growers and 16 pilots.
 // Its squares are filled where they stand: a square that is returned is copied.
@@ -20,8 +20,8 @@ pub fn settle_list(ticket: &[u16]) -> [u16; 771]
 {
     let growers = numbers::within(tables::growers(ticket));
     let pilots = numbers::within(tables::pilots(ticket));
-    let grower_hours = tables::grower_hours(ticket);
-    let pilot_hours = tables::pilot_hours(ticket);
+    let grower_hours = tables::hours(ticket, Side::Growers);
+    let pilot_hours = tables::hours(ticket, Side::Pilots);
     let mut tariff_cap = grid::zeros();
     tables::fill(ticket, Quantity::TariffCap, &mut tariff_cap);
     let mut tariff_gain = grid::zeros();

@@ -7,6 +7,8 @@ use Rattle.grid.specs.Grid.{Grid}
 use Rattle.grid.specs.Fill.{Filled, FilledOver, FilledRow}
 use Rattle.market.specs.Market.{Ticket, Settlement}
 use Rattle.market.specs.Tables.{by_deal}
+use Rattle.tables.specs.declared.Side.{Side}
+use Rattle.tables.specs.declared.Side.TheVariants.{Growers, Pilots}
 use Rattle.tables.specs.declared.Quantity.{Quantity}
 use Rattle.tables.specs.declared.Quantity.TheVariants.{TariffCap, TariffGain, TariffPay, FreeCap, JointGain}
 use Rattle.tables.specs.declared.Quantity.TheVariants.{TariffHours, FreeDealHours, Pay}
@@ -48,6 +50,10 @@ grower_place i = 3 + i
 
 abbrev pub pilot_place : ℕ → ℕ → ℕ
 pilot_place n j = 3 + n + j
+
+abbrev pub hours_place : Side → ℕ → ℕ → ℕ
+hours_place Growers n = grower_place
+hours_place Pilots n = pilot_place n
 
 abbrev pub grower_hours_of : List ℕ → ℕ → ℕ
 grower_hours_of list i = get_or list (grower_place i) 0
@@ -100,6 +106,20 @@ first_sixteen t = record {
   grower_standby = t.grower_standby;
   pilot_standby = t.pilot_standby;
 }
+
+-- those with whom a side has its deals
+abbrev pub across : Side → Side
+across Growers = Pilots
+across Pilots = Growers
+
+-- how many parties a side has, and their own hours
+abbrev pub parties_of : Side → Ticket → ℕ
+parties_of Growers t = t.growers
+parties_of Pilots t = t.pilots
+
+abbrev pub hours_of : Side → Ticket → ℕ → ℕ
+hours_of Growers t = t.grower_hours
+hours_of Pilots t = t.pilot_hours
 
 abbrev pub settlement_of : List ℕ → Settlement
 settlement_of list = record {

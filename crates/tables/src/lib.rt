@@ -5,12 +5,11 @@
 mod quantities;
 
 pub use quantities::{
-    fill, grower_hours, grower_place, growers, pilot_hours, pilot_place, pilots, place,
-    settlement_front, square, ticket_front,
+    fill, growers, hours, hours_place, pilots, place, settlement_front, square, ticket_front,
 };
 
 // What a square of growers by pilots holds: five quantities of a ticket, three of a settlement.
-#[derive(Clone, Copy)]
+#[derive(Clone, Copy, Debug, PartialEq, Eq)]
 pub enum Quantity {
     TariffCap,
     TariffGain,
@@ -20,4 +19,11 @@ pub enum Quantity {
     TariffHours,
     FreeDealHours,
     Pay,
+}
+
+// The growers, or the pilots.
+#[derive(Clone, Copy, Debug, PartialEq, Eq)]
+pub enum Side {
+    Growers,
+    Pilots,
 }

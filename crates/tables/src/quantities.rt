@@ -1,10 +1,10 @@
 // Lists of numbers as squares and rows.
 ghost use Rattle.std.specs.Prelude.{◌≡◌, ◌+◌, ◌*◌, ◌<◌, min, get_or};
 ghost use Rattle.grid.specs.Fill.{FilledRow};
-ghost use Rattle.tables.specs.View.{growers_of, pilots_of, place_of, Spreads, grower_hours_of, pilot_hours_of, Holds, HoldsOver};
-ghost use Rattle.tables.specs.View.{grower_place, pilot_place, ticket_front, settlement_front};
+ghost use Rattle.tables.specs.View.{growers_of, pilots_of, place_of, Spreads, hours_of, parties_of, ticket_of, Holds, HoldsOver};
+ghost use Rattle.tables.specs.View.{hours_place, ticket_front, settlement_front};
 
-use crate::Quantity;
+use crate::{Quantity, Side};
 
 // Where a quantity stands: that of the first pair at `first`, that of each other pair `each` places after the last.
 #[derive(Clone, Copy)]
@@ -48,13 +48,13 @@ fn row_place(first: usize, each: usize, m: usize, i: usize) -> usize
 pub fn growers(list: &[u16]) -> usize
     ensures { (result ≡ growers_of list.now) × (result < 65536) }
 {
-    numbers::index(numbers::entry(list, 1))
+    usize::from(numbers::entry(list, 1))
 }
 
 pub fn pilots(list: &[u16]) -> usize
     ensures { (result ≡ pilots_of list.now) × (result < 65536) }
 {
-    numbers::index(numbers::entry(list, 2))
+    usize::from(numbers::entry(list, 2))
 }
 
 // A product of two numbers of lists.
@@ -71,21 +71,18 @@ pub fn place(list: &[u16], quantity: Quantity, i: u16, j: u16) -> usize
 {
     let m = pilots(list);
     let spread = places(quantity, growers(list), m);
-    let pair = product(numbers::index(i), m) + numbers::index(j);
+    let pair = product(usize::from(i), m) + usize::from(j);
     spread.first + spread.each * pair
 }
 
-// Where a grower's hours stand, and a pilot's.
-pub fn grower_place(i: u16) -> usize
-    ensures { result ≡ grower_place i }
+// Where a party's hours stand.
+pub fn hours_place(list: &[u16], side: Side, party: u16) -> usize
+    ensures { result ≡ hours_place side (growers_of list.now) party }
 {
-    3 + numbers::index(i)
-}
-
-pub fn pilot_place(list: &[u16], j: u16) -> usize
-    ensures { result ≡ pilot_place (growers_of list.now) j }
-{
-    3 + growers(list) + numbers::index(j)
+    match side {
+        Side::Growers => 3 + usize::from(party),
+        Side::Pilots => 3 + growers(list) + usize::from(party),
+    }
 }
 
 // The numbers of a ticket, where others follow them, and those of a settlement.
@@ -146,14 +143,12 @@ fn row(list: &[u16], from: usize, count: usize) -> [u16; 16]
     r
 }
 
-pub fn grower_hours(ticket: &[u16]) -> [u16; 16]
-    ensures { FilledRow (grower_hours_of ticket.now) (min 16 (growers_of ticket.now)) result }
+// Everybody's own hours on a side.
+pub fn hours(ticket: &[u16], side: Side) -> [u16; 16]
+    ensures { FilledRow (hours_of side (ticket_of ticket.now)) (min 16 (parties_of side (ticket_of ticket.now))) result }
 {
-    row(ticket, 3, growers(ticket))
-}
-
-pub fn pilot_hours(ticket: &[u16]) -> [u16; 16]
-    ensures { FilledRow (pilot_hours_of ticket.now) (min 16 (pilots_of ticket.now)) result }
-{
-    row(ticket, 3 + growers(ticket), pilots(ticket))
+    match side {
+        Side::Growers => row(ticket, 3, growers(ticket)),
+        Side::Pilots => row(ticket, 3 + growers(ticket), pilots(ticket)),
+    }
 }

@@ -4,7 +4,7 @@ ghost use Rattle.tables.specs.View.{growers_of, pilots_of};
 ghost use Rattle.ticket_calls.specs.Calls.{is_one, hours_place, partners, pair_place, is_in, hours_of};
 
 use crate::Party;
-use tables::Quantity;
+use tables::{Quantity, Side};
 
 fn is_one(party: Party, growers: usize, pilots: usize) -> bool
     ensures { result ≡ is_one party growers pilots }
@@ -33,8 +33,8 @@ pub(crate) fn hours_place(ticket: &[u16], party: Party) -> usize
     ensures { result ≡ hours_place party (growers_of ticket.now) }
 {
     match party {
-        Party::Grower { number } => tables::grower_place(number),
-        Party::Pilot { number } => tables::pilot_place(ticket, number),
+        Party::Grower { number } => tables::hours_place(ticket, Side::Growers, number),
+        Party::Pilot { number } => tables::hours_place(ticket, Side::Pilots, number),
     }
 }
 

@@ -1,5 +1,6 @@
 -- The cheapest spare is the cheapest of the numbers that a free hour and the hours of other deals are worth.
 -- Assumes nothing.
+use Rattle.std.specs.Prelude.{None, Option, Some}
 use Prim.Native.Nat.{ℕ, zero, suc, ◌+◌, min, ◌<◌}
 use mathlib.Core.Path.{◌≡◌, refl, sym}
 use mathlib.Core.Bool.{true, cond, false≢true}
@@ -11,28 +12,26 @@ use Rattle.grid.proofs.Cases.{eq_or_ne, lt_or_le}
 use Rattle.market.specs.declared.Deal.{Deal}
 use Rattle.market.specs.declared.Deal.TheVariants.{Tariff, Free}
 use Rattle.market.specs.Market.{Cheapest}
-use Rattle.verdicts.specs.declared.Spare.{Spare}
-use Rattle.verdicts.specs.declared.Spare.TheVariants.{Nothing, Worth}
 use Rattle.verdicts.specs.Tests.{count_in, cheapest_of, besides, cheapest_spare, below, both_below}
 
 -- s is the cheapest of the numbers with a property, or there is none
-abbrev pub CheapestIs : (ℕ → Type 0) → Spare → Type 0
-CheapestIs P Nothing = (w : ℕ) → ¬ P w
-CheapestIs P (Worth w) = Cheapest P w
+abbrev pub CheapestIs : (ℕ → Type 0) → Option ℕ → Type 0
+CheapestIs P None = (w : ℕ) → ¬ P w
+CheapestIs P (Some w) = Cheapest P w
 
 -- the same for a property that comes to the same
-alike : (P Q : ℕ → Type 0) → ((w : ℕ) → P w → Q w) → ((w : ℕ) → Q w → P w) → (s : Spare) → CheapestIs P s → CheapestIs Q s
-alike P Q to from Nothing none = λ w q. none w (from w q)
-alike P Q to from (Worth w) least = (to w least.0, λ v q. least.1 v (from v q))
+alike : (P Q : ℕ → Type 0) → ((w : ℕ) → P w → Q w) → ((w : ℕ) → Q w → P w) → (s : Option ℕ) → CheapestIs P s → CheapestIs Q s
+alike P Q to from None none = λ w q. none w (from w q)
+alike P Q to from (Some w) least = (to w least.0, λ v q. least.1 v (from v q))
 
 -- the property, or to be worth w while there are hours
 abbrev Or : (ℕ → Type 0) → ℕ → ℕ → ℕ → Type 0
 Or P hours w v = P v ⊎ ((0 < hours) × (v ≡ w))
 
-more : (P : ℕ → Type 0) (hours w : ℕ) → 0 < hours → (s : Spare) → CheapestIs P s → CheapestIs (Or P hours w) (count_in hours w s)
-more P hours w h Nothing none =
+more : (P : ℕ → Type 0) (hours w : ℕ) → 0 < hours → (s : Option ℕ) → CheapestIs P s → CheapestIs (Or P hours w) (count_in hours w s)
+more P hours w h None none =
     rw (lt-ltb 0 hours h) (inr (h, refl), λ v q. ⊎_elim (λ p. absurd (none v p)) (λ e. omega (arith, e.1)) q)
-more P hours w h (Worth u) least =
+more P hours w h (Some u) least =
     rw (lt-ltb 0 hours h) (
       ⊎_elim
           (λ l. let e : min u w ≡ w = omega arith in rw e (inr (h, refl)))
@@ -41,7 +40,7 @@ more P hours w h (Worth u) least =
       λ v q. ⊎_elim (λ p. omega (arith, least.1 v p)) (λ e. omega (arith, e.1)) q,
     )
 
-count_in_lem : (P : ℕ → Type 0) (hours w : ℕ) (s : Spare) → CheapestIs P s → CheapestIs (Or P hours w) (count_in hours w s)
+count_in_lem : (P : ℕ → Type 0) (hours w : ℕ) (s : Option ℕ) → CheapestIs P s → CheapestIs (Or P hours w) (count_in hours w s)
 count_in_lem P hours w s is = ⊎_elim
     (λ h. more P hours w h s is)
     (λ h. rw (le-ltb 0 hours h) (alike P (Or P hours w) (λ v p. inl p) (λ v q. ⊎_elim (λ p. p) (λ e. absurd (omega (arith, e.0))) q) s is))
@@ -51,7 +50,7 @@ count_in_lem P hours w s is = ⊎_elim
 abbrev Among : (ℕ → Type 0) → (Deal → ℕ → ℕ) → (Deal → ℕ → ℕ) → ℕ → ℕ → Type 0
 Among P hours worth k v = P v ⊎ ((e : Deal) × (l : ℕ) × (l < k) × (0 < hours e l) × (v ≡ worth e l))
 
-cheapest_among : (P : ℕ → Type 0) (hours worth : Deal → ℕ → ℕ) (k : ℕ) (s : Spare) → CheapestIs P s →
+cheapest_among : (P : ℕ → Type 0) (hours worth : Deal → ℕ → ℕ) (k : ℕ) (s : Option ℕ) → CheapestIs P s →
     CheapestIs (Among P hours worth k) (cheapest_of s hours worth k)
 unfolding cheapest_of
 cheapest_among P hours worth zero s is =
@@ -125,8 +124,8 @@ module _ (free standby : ℕ) (hours worth : Deal → ℕ → ℕ) (k : ℕ) (d 
   pub cheapest_of_lem : (S : ℕ → Type 0) → AreSpares S → CheapestIs S (cheapest_spare free standby hours worth k d y)
   cheapest_of_lem S are =
       alike Counted S to from (cheapest_spare free standby hours worth k d y)
-      (cheapest_among (Or (λ w. ⊥) free standby) (besides d y hours) worth k (count_in free standby Nothing)
-      (count_in_lem (λ w. ⊥) free standby Nothing (λ w z. z)))
+      (cheapest_among (Or (λ w. ⊥) free standby) (besides d y hours) worth k (count_in free standby None)
+      (count_in_lem (λ w. ⊥) free standby None (λ w z. z)))
     where
       to : (w : ℕ) → Counted w → S w
       to w (inl (inl z)) = absurd z
@@ -141,15 +140,15 @@ module _ (free standby : ℕ) (hours worth : Deal → ℕ → ℕ) (k : ℕ) (d 
           (are.only w s)
 
 -- what the tests of spares say
-pub below_iff : (P : ℕ → Type 0) (s : Spare) → CheapestIs P s → (v : ℕ) → (below s v ≡ true) ↔ ((w : ℕ) × P w × (w < v))
-below_iff P Nothing is v = (λ h. absurd (false≢true h), λ z. absurd (is z.0 z.1))
-below_iff P (Worth w) is v = (λ h. (w, is.0, ltb-true w v h), λ z. lt-ltb w v (omega (arith, is.1 z.0 z.1, z.2)))
+pub below_iff : (P : ℕ → Type 0) (s : Option ℕ) → CheapestIs P s → (v : ℕ) → (below s v ≡ true) ↔ ((w : ℕ) × P w × (w < v))
+below_iff P None is v = (λ h. absurd (false≢true h), λ z. absurd (is z.0 z.1))
+below_iff P (Some w) is v = (λ h. (w, is.0, ltb-true w v h), λ z. lt-ltb w v (omega (arith, is.1 z.0 z.1, z.2)))
 
-pub both-below_iff : (P Q : ℕ → Type 0) (s r : Spare) → CheapestIs P s → CheapestIs Q r → (v : ℕ) →
+pub both-below_iff : (P Q : ℕ → Type 0) (s r : Option ℕ) → CheapestIs P s → CheapestIs Q r → (v : ℕ) →
     (both_below s r v ≡ true) ↔ ((w : ℕ) × (u : ℕ) × Cheapest P w × Cheapest Q u × (w + u < v))
-both-below_iff P Q Nothing r is its v = (λ h. absurd (false≢true h), λ z. absurd (is z.0 z.2.0))
-both-below_iff P Q (Worth w) Nothing is its v = (λ h. absurd (false≢true h), λ z. absurd (its z.1 z.3.0))
-both-below_iff P Q (Worth w) (Worth u) is its v = (
+both-below_iff P Q None r is its v = (λ h. absurd (false≢true h), λ z. absurd (is z.0 z.2.0))
+both-below_iff P Q (Some w) None is its v = (λ h. absurd (false≢true h), λ z. absurd (its z.1 z.3.0))
+both-below_iff P Q (Some w) (Some u) is its v = (
   λ h. (w, u, is, its, ltb-true (w + u) v h),
   λ z. lt-ltb (w + u) v (omega (arith, is.1 z.0 z.2.0, its.1 z.1 z.3.0, z.4)),
 )

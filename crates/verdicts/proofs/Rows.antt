@@ -1,5 +1,6 @@
 -- Rows without the hours of the deal itself: what the cheapest spare counts in.
 -- Assumes nothing.
+use Rattle.std.specs.Prelude.{None, Option}
 use Prim.Native.Nat.{ℕ, ◌<◌, ◌≤◌}
 use mathlib.Core.Path.{◌≡◌, refl, ◌∙◌}
 use mathlib.Core.Logic.{⊎_elim}
@@ -13,8 +14,6 @@ use borrow.Author.Tests.{eq-eqb, ne_eqb}
 use Rattle.grid.proofs.Cases.{eq_or_ne, lt_or_le}
 use Rattle.market.specs.declared.Deal.{Deal}
 use Rattle.market.specs.declared.Deal.TheVariants.{Tariff, Free}
-use Rattle.verdicts.specs.declared.Spare.{Spare}
-use Rattle.verdicts.specs.declared.Spare.TheVariants.{Nothing}
 use Rattle.verdicts.specs.Tests.{count_in, cheapest_of, besides, cheapest_spare, lines}
 use Rattle.verdicts.proofs.Spares.{cheapest_same}
 
@@ -30,7 +29,7 @@ before_zero : (r : List ℕ) (y l : ℕ) → l < y → get_or (set r y 0) l 0 �
 before_zero r y l h = get_or-set_other r y l 0 0 (λ e. omega arith)
 
 -- the cheapest of a free hour and of two rows, one of which lacks the deal's own hours, and the other those with nobody
-module _ (unused : ℕ) (tariff free earned share : List ℕ) (k y : ℕ) (few : k ≤ 16) (s r : Spare) (es : s ≡ count_in unused 0 Nothing)
+module _ (unused : ℕ) (tariff free earned share : List ℕ) (k y : ℕ) (few : k ≤ 16) (s r : Option ℕ) (es : s ≡ count_in unused 0 None)
     (by_tariff by_free : List ℕ) (er : r ≡ cheapest_of s (lines by_tariff by_free) (lines earned share) k) where
   beside_tariff : (e : Deal) (l : ℕ) → l < k → lines (set tariff y 0) (set free 16 0) e l ≡ besides Tariff y (lines tariff free) e l
   beside_tariff Tariff l h = zero-at tariff y l

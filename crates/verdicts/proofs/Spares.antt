@@ -1,5 +1,6 @@
 -- The laws of the cheapest spare.
 -- Assumes nothing.
+use Rattle.std.specs.Prelude.{Option}
 use Prim.Native.Nat.{ℕ, zero, suc, ◌+◌, ◌<◌}
 use mathlib.Core.Path.{◌≡◌, refl, ap}
 use mathlib.Core.Bool.{cond, ◌&&◌}
@@ -8,22 +9,21 @@ use native.Mathlib.Numerals.{add-one}
 use native.Mathlib.Omega.{arith}
 use Rattle.market.specs.declared.Deal.{Deal}
 use Rattle.market.specs.declared.Deal.TheVariants.{Tariff, Free}
-use Rattle.verdicts.specs.declared.Spare.{Spare}
 use Rattle.verdicts.specs.Tests.{count_in, cheapest_of, same_deal, cheapest_spare}
 
 -- what a loop starts with, and what its turn does
-pub cheapest_none : (s : Spare) (hours worth : Deal → ℕ → ℕ) → cheapest_of s hours worth 0 ≡ s
+pub cheapest_none : (s : Option ℕ) (hours worth : Deal → ℕ → ℕ) → cheapest_of s hours worth 0 ≡ s
 unfolding cheapest_of
 cheapest_none s hours worth = refl
 
-pub cheapest_more : (s : Spare) (hours worth : Deal → ℕ → ℕ) (k : ℕ) →
+pub cheapest_more : (s : Option ℕ) (hours worth : Deal → ℕ → ℕ) (k : ℕ) →
     cheapest_of s hours worth (k + 1)
     ≡ count_in (hours Free k) (worth Free k) (count_in (hours Tariff k) (worth Tariff k) (cheapest_of s hours worth k))
 unfolding cheapest_of
 cheapest_more s hours worth k = rw (add-one k)
 
 -- spares that are the same with every partner
-pub cheapest_same : (s : Spare) (hours worth hours' worth' : Deal → ℕ → ℕ) (k : ℕ) →
+pub cheapest_same : (s : Option ℕ) (hours worth hours' worth' : Deal → ℕ → ℕ) (k : ℕ) →
     ((d : Deal) (l : ℕ) → l < k → hours d l ≡ hours' d l) → ((d : Deal) (l : ℕ) → l < k → worth d l ≡ worth' d l) →
     cheapest_of s hours worth k ≡ cheapest_of s hours' worth' k
 unfolding cheapest_of
@@ -38,7 +38,7 @@ cheapest_same s hours worth hours' worth' (suc k) h w =
     )
 
 -- a turn of the loop: the tariff hours with partner k counted in, then the free-deal hours
-pub cheapest_turn : (s a b c : Spare) (hours worth : Deal → ℕ → ℕ) (k : ℕ) → a ≡ cheapest_of s hours worth k →
+pub cheapest_turn : (s a b c : Option ℕ) (hours worth : Deal → ℕ → ℕ) (k : ℕ) → a ≡ cheapest_of s hours worth k →
     b ≡ count_in (hours Tariff k) (worth Tariff k) a → c ≡ count_in (hours Free k) (worth Free k) b → c ≡ cheapest_of s hours worth (k + 1)
 cheapest_turn s a b c hours worth k ea eb ec = rw (cheapest_more s hours worth k, ← ea, ← eb) ec
 

@@ -2,35 +2,27 @@
 ghost use Rattle.std.specs.Prelude.{◌≡◌, min, set};
 ghost use Rattle.verdicts.specs.Tests.{count_in, cheapest_of, lines, cheapest_spare};
 
-use crate::Spare;
 use market::Deal;
 
 // The cheaper of a spare and hours that are worth so much each, if there are any.
-fn count_in(spare: Spare, hours: u16, worth: u16) -> Spare
+fn count_in(spare: Option<u16>, hours: u16, worth: u16) -> Option<u16>
     ensures { result ≡ count_in hours worth spare }
 {
     if hours == 0 {
         return spare;
     }
-    match spare {
-        Spare::Nothing => Spare::Worth { worth: worth },
-        Spare::Worth { worth: w } => if worth < w {
-            Spare::Worth { worth: worth }
-        } else {
-            Spare::Worth { worth: w }
-        },
-    }
+    Some(spare.map_or(worth, |w| w.min(worth)))
 }
 
 // The cheapest of a spare and the hours of both deals with each partner.
 fn cheapest(
-    spare: Spare,
+    spare: Option<u16>,
     tariff: [u16; 16],
     free: [u16; 16],
     earned: [u16; 16],
     share: [u16; 16],
     partners: usize,
-) -> Spare
+) -> Option<u16>
     ensures { result ≡ cheapest_of spare (lines tariff free) (lines earned share) (min 16 partners) }
 {
     let count = numbers::within(partners);
@@ -67,10 +59,10 @@ pub fn cheapest_spare(
     partners: usize,
     deal: Deal,
     partner: usize,
-) -> Spare
+) -> Option<u16>
     ensures { result ≡ cheapest_spare unused 0 (lines tariff free) (lines earned share) (min 16 partners) deal partner }
 {
-    let free_hour = count_in(Spare::Nothing, unused, 0);
+    let free_hour = count_in(None, unused, 0);
     match deal {
         Deal::Tariff => cheapest(
             free_hour,

@@ -3,7 +3,7 @@ ghost use Rattle.std.specs.Prelude.{◌≡◌, ◌+◌};
 ghost use Rattle.verdicts.specs.Tests.{idle_test, below, both_below, outweighs, blocks_test};
 ghost use Rattle.verdicts.specs.Faults.{deal_fault};
 
-use crate::{Found, Spare, Verdict};
+use crate::Verdict;
 use market::Deal;
 
 fn idle(hours: u16, cap: u16, free_of_grower: u16, free_of_pilot: u16) -> bool
@@ -12,32 +12,26 @@ fn idle(hours: u16, cap: u16, free_of_grower: u16, free_of_pilot: u16) -> bool
     hours < cap && (0 < free_of_grower && 0 < free_of_pilot)
 }
 
-fn below(spare: Spare, amount: u16) -> bool
+fn below(spare: Option<u16>, amount: u16) -> bool
     ensures { result ≡ below spare amount }
 {
-    match spare {
-        Spare::Nothing => false,
-        Spare::Worth { worth } => worth < amount,
-    }
+    spare.is_some_and(|worth| worth < amount)
 }
 
-fn both_below(of_grower: Spare, of_pilot: Spare, amount: u16) -> bool
+fn both_below(of_grower: Option<u16>, of_pilot: Option<u16>, amount: u16) -> bool
     ensures { result ≡ both_below of_grower of_pilot amount }
 {
-    let Spare::Worth { worth: w } = of_grower else {
-        return false;
-    };
-    let Spare::Worth { worth: v } = of_pilot else {
-        return false;
-    };
-    numbers::wide(w) + numbers::wide(v) < numbers::wide(amount)
+    match (of_grower, of_pilot) {
+        (Some(w), Some(v)) => numbers::wide(w) + numbers::wide(v) < numbers::wide(amount),
+        _ => false,
+    }
 }
 
 // An hour more of a deal outweighs two spares.
 fn outweighs(
     deal: Deal,
-    of_grower: Spare,
-    of_pilot: Spare,
+    of_grower: Option<u16>,
+    of_pilot: Option<u16>,
     gain: u16,
     pay: u16,
     joint_gain: u16,
@@ -54,8 +48,8 @@ fn blocks(
     deal: Deal,
     hours: u16,
     cap: u16,
-    of_grower: Spare,
-    of_pilot: Spare,
+    of_grower: Option<u16>,
+    of_pilot: Option<u16>,
     gain: u16,
     pay: u16,
     joint_gain: u16,
@@ -76,12 +70,12 @@ pub fn deal_fault(
     cap: u16,
     free_of_grower: u16,
     free_of_pilot: u16,
-    of_grower: Spare,
-    of_pilot: Spare,
+    of_grower: Option<u16>,
+    of_pilot: Option<u16>,
     gain: u16,
     pay: u16,
     joint_gain: u16,
-) -> Found
+) -> Option<Verdict>
     ensures { result ≡ deal_fault grower pilot deal count hours cap free_of_grower free_of_pilot of_grower of_pilot gain pay joint_gain }
 {
     if idle(hours, cap, free_of_grower, free_of_pilot) {
@@ -91,7 +85,7 @@ pub fn deal_fault(
             deal,
             count,
         };
-        return Found::Fault { verdict };
+        return Some(verdict);
     }
     if blocks(deal, hours, cap, of_grower, of_pilot, gain, pay, joint_gain) {
         let verdict = Verdict::Blocks {
@@ -100,7 +94,7 @@ pub fn deal_fault(
             deal,
             count,
         };
-        return Found::Fault { verdict };
+        return Some(verdict);
     }
-    Found::Nothing
+    None
 }

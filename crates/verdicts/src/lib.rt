@@ -66,17 +66,3 @@ pub struct Values {
     pub count: usize,
     pub worth: u64,
 }
-
-// The verdict on a fault, or nothing.
-#[derive(Clone, Copy)]
-pub enum Found {
-    Nothing,
-    Fault { verdict: Verdict },
-}
-
-// A party's cheapest spare for a deal, by what it is worth to him.
-#[derive(Clone, Copy)]
-pub enum Spare {
-    Nothing,
-    Worth { worth: u16 },
-}

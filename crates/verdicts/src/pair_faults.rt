@@ -3,7 +3,7 @@ ghost use Rattle.std.specs.Prelude.{◌≡◌};
 ghost use Rattle.verdicts.specs.Tests.{pay_test};
 ghost use Rattle.verdicts.specs.Faults.{pair_fault};
 
-use crate::{Found, Verdict};
+use crate::Verdict;
 
 fn wrong_pay(gain: u16, hours: u16, pay: u16) -> bool
     ensures { result ≡ pay_test gain hours pay }
@@ -21,20 +21,20 @@ pub fn pair_fault(
     free_cap: u16,
     pay: u16,
     joint_gain: u16,
-) -> Found
+) -> Option<Verdict>
     ensures { result ≡ pair_fault grower pilot tariff_hours tariff_cap free_deal_hours free_cap pay joint_gain }
 {
     if tariff_cap < tariff_hours {
         let verdict = Verdict::TariffOverCap { grower, pilot };
-        return Found::Fault { verdict };
+        return Some(verdict);
     }
     if free_cap < free_deal_hours {
         let verdict = Verdict::FreeOverCap { grower, pilot };
-        return Found::Fault { verdict };
+        return Some(verdict);
     }
     if wrong_pay(joint_gain, free_deal_hours, pay) {
         let verdict = Verdict::WrongPay { grower, pilot };
-        return Found::Fault { verdict };
+        return Some(verdict);
     }
-    Found::Nothing
+    None
 }

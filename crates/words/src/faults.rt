@@ -5,7 +5,7 @@ ghost use Rattle.std.specs.Prelude.{◌<◌};
 use crate::spares::{Spare, flown_by_grower, flown_by_pilot, of_grower, of_pilot};
 use market::Deal;
 use numbers::{entry, index};
-use tables::Quantity;
+use tables::{Quantity, Side};
 use verdicts::{Found, Verdict, deal_fault, pair_fault};
 
 // As many as a settlement can have: three of each of 256 pairs, one of each party and one of each deal.
@@ -130,7 +130,7 @@ fn of_growers(ticket: &[u16], settlement: &[u16], list: &mut [u16], count: usize
     let growers = entry(ticket, 1);
     let mut reached = count;
     for i in 0..growers {
-        let hours = entry(ticket, tables::grower_place(i));
+        let hours = entry(ticket, tables::hours_place(terms, Side::Growers, i));
         let grower = index(i);
         let found = over(
             hours,
@@ -201,7 +201,7 @@ fn of_deal(ticket: &[u16], settlement: &[u16], i: u16, j: u16, deal: Deal) -> Fo
         0,
         number(settlement, hours_in(deal), i, j),
         number(ticket, cap_in(deal), i, j),
-        numbers::left(entry(ticket, tables::grower_place(i)), by_grower),
+        numbers::left(entry(ticket, tables::hours_place(terms, Side::Growers, i)), by_grower),
         numbers::left(entry(ticket, tables::pilot_place(ticket, j)), by_pilot),
         worth_of(of_grower),
         worth_of(of_pilot),

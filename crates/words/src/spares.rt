@@ -1,6 +1,6 @@
 // Which spare of a party for a deal is the cheapest: a free hour, which is worth nothing, or an hour of another deal.
 use market::Deal;
-use tables::Quantity;
+use tables::{Quantity, Side};
 use verdicts::cheapest_spare;
 
 #[derive(Clone, Copy)]
@@ -160,7 +160,7 @@ pub(crate) fn of_grower(
     let by_free = row(tables::square(settlement, Quantity::FreeDealHours), i);
     let pay = row(tables::square(settlement, Quantity::Pay), i);
     cheapest(
-        at(tables::grower_hours(ticket), i),
+        at(tables::hours(ticket, Side::Growers), i),
         by_tariff,
         by_free,
         row(tables::square(ticket, Quantity::TariffGain), i),
@@ -181,7 +181,7 @@ pub(crate) fn of_pilot(
     let by_tariff = column(tables::square(settlement, Quantity::TariffHours), j);
     let by_free = column(tables::square(settlement, Quantity::FreeDealHours), j);
     cheapest(
-        at(tables::pilot_hours(ticket), j),
+        at(tables::hours(ticket, Side::Pilots), j),
         by_tariff,
         by_free,
         column(tables::square(ticket, Quantity::TariffPay), j),

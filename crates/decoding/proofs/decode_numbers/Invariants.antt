@@ -7,6 +7,3 @@ use Rattle.decoding.proofs.decode_numbers.Given as goal
 
 abbrev pub invariant-loop-i : goal.invariant-loop-i
 invariant-loop-i l = Decoding l.s l.initial.list l.list l.i l.count l.prior
-
-abbrev pub decreases-loop-i : goal.decreases-loop-i
-decreases-loop-i l = length l.s - l.i

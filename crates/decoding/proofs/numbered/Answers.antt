@@ -4,9 +4,9 @@ use native.Mathlib.Omega.{arith}
 use Rattle.decoding.proofs.Decoding.{numbered_turns, numbered_ends}
 use Rattle.decoding.proofs.numbered.Goals as goal
 
-pub loop-i-preserved : goal.loop-i-preserved
-loop-i-preserved c = let l = c.loop-i in
-    (omega arith, rw c.follows-well.ensures (numbered_turns _ l.i l.prior _ l.well (omega arith) refl l.invariant.1))
+pub loop-b-preserved : goal.loop-b-preserved
+loop-b-preserved c = let l = c.loop-b in
+    (l.invariant.0, omega arith, rw c.follows-well.ensures (numbered_turns _ l.b-index l.prior _ l.well (omega arith) refl l.invariant.2))
 
 pub returns : goal.returns
-returns c = let l = c.loop-i in numbered_ends _ l.i l.prior l.well (omega arith) l.invariant.1
+returns c = let l = c.loop-b in numbered_ends _ l.b-index l.prior l.well (omega arith) l.invariant.2

@@ -6,6 +6,3 @@ use Rattle.euros.proofs.clash.Given as goal
 
 abbrev pub invariant-loop-j : goal.invariant-loop-j
 invariant-loop-j l = (l.j ≤ l.pilots) × NoneBefore (is_whole l.price l.shift) l.j
-
-abbrev pub decreases-loop-j : goal.decreases-loop-j
-decreases-loop-j l = l.pilots - l.j

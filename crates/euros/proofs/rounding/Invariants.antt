@@ -6,6 +6,3 @@ use Rattle.euros.proofs.rounding.Given as goal
 
 abbrev pub invariant-loop-shift : goal.invariant-loop-shift
 invariant-loop-shift l = (l.shift ≤ 17) × NoneBefore (none_whole l.price l.end) l.shift
-
-abbrev pub decreases-loop-shift : goal.decreases-loop-shift
-decreases-loop-shift l = 17 - l.shift

@@ -7,6 +7,3 @@ use Rattle.free_hours.proofs.of_side.Given as goal
 
 abbrev pub invariant-loop-party : goal.invariant-loop-party
 invariant-loop-party l = (l.party ≤ l.end) × FilledRow (free_of l.side (first_sixteen (ticket_of l.ticket)) (settlement_of l.settlement)) l.party l.row
-
-abbrev pub decreases-loop-party : goal.decreases-loop-party
-decreases-loop-party l = l.end - l.party

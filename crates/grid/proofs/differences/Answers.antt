@@ -6,7 +6,7 @@ use Rattle.grid.proofs.differences.Goals as goal
 pub loop-j-preserved : goal.loop-j-preserved
 loop-j-preserved c = let row = c.loop-j.invariant.1 in (
   omega arith,
-  λ before p. part-put _ _ _ _ _ _ _ (omega arith) (omega arith) (omega arith) (omega arith) c.less.ensures
+  λ before p. part-put _ _ _ _ _ _ _ (omega arith) (omega arith) (omega arith) (omega arith) c.saturating_sub.ensures
       (row before p),
 )
 

@@ -7,11 +7,5 @@ use Rattle.grid.proofs.differences.Given as goal
 abbrev pub invariant-loop-j : goal.invariant-loop-j
 invariant-loop-j l = (l.j ≤ l.width) × RowPart (λ a b. at l.one a b - at l.other a b) l.width l.i l.j l.initial.q l.q
 
-abbrev pub decreases-loop-j : goal.decreases-loop-j
-decreases-loop-j l = l.width - l.j
-
 abbrev pub invariant-loop-i : goal.invariant-loop-i
 invariant-loop-i l = (l.i ≤ l.height) × Part l.initial.q (λ a b. at l.one a b - at l.other a b) l.width l.i 0 l.q
-
-abbrev pub decreases-loop-i : goal.decreases-loop-i
-decreases-loop-i l = l.height - l.i

@@ -7,11 +7,5 @@ use Rattle.grid.proofs.turned.Given as goal
 abbrev pub invariant-loop-i : goal.invariant-loop-i
 invariant-loop-i l = (l.i ≤ l.width) × RowPart (λ b a. at l.sq a b) l.width l.j l.i l.initial.q l.q
 
-abbrev pub decreases-loop-i : goal.decreases-loop-i
-decreases-loop-i l = l.width - l.i
-
 abbrev pub invariant-loop-j : goal.invariant-loop-j
 invariant-loop-j l = (l.j ≤ l.height) × Part l.initial.q (λ b a. at l.sq a b) l.width l.j 0 l.q
-
-abbrev pub decreases-loop-j : goal.decreases-loop-j
-decreases-loop-j l = l.height - l.j

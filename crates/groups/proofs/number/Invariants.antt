@@ -7,6 +7,3 @@ use Rattle.groups.proofs.number.Given as goal
 
 abbrev pub invariant-loop-k : goal.invariant-loop-k
 invariant-loop-k l = Reading l.s l.at l.k l.value l.weight l.least
-
-abbrev pub decreases-loop-k : goal.decreases-loop-k
-decreases-loop-k l = groups - l.k

@@ -6,6 +6,3 @@ use Rattle.pages.proofs.copy.Given as goal
 
 abbrev pub invariant-loop-k : goal.invariant-loop-k
 invariant-loop-k l = (l.k ≤ l.k-end) × Wrote l.initial.page l.page l.at l.here (take l.k l.words)
-
-abbrev pub decreases-loop-k : goal.decreases-loop-k
-decreases-loop-k l = l.k-end - l.k

@@ -1,14 +1,24 @@
--- `passing::hours_pass` meets its contract: whether the hours of the parties that were looked at pass. Assumes nothing.
-use mathlib.Core.Path.{sym}
+-- `passing::hours_pass` meets its contract: what the chain finds of everybody's hours is what holds at every place.
+use Rattle.std.proofs.Common.{rules, ◌≡◌, ◌+◌, true, false, ℕ, Bool}
+use mathlib.Core.Path.{◌∙◌}
 use native.Mathlib.Omega.{arith}
-use Rattle.grid.proofs.EveryLaws.{every-none, every_turn}
+use Rattle.std.specs.Prelude.{is_ok}
+use lib.ListN.{get_or}
+use Rattle.std.specs.List.{between}
+use Rattle.std.proofs.lemmas.List.Edits.{get_or-between, length-between}
+use Rattle.std.proofs.lemmas.Iterator.{cases_from_all, YieldsList-from_slice}
+use borrow.Author.Tests.{tests}
+use Rattle.checks.specs.declared.ticket.Field.TheVariants.{Hours}
+use Rattle.checks.specs.TicketFaults.{fault_of}
+use Rattle.grid.proofs.Chains.{every_of, every_part}
 use Rattle.passing.proofs.hours_pass.Goals as goal
 
-pub loop-k-init : goal.loop-k-init
-loop-k-init c = (omega arith, sym (every-none _))
-
-pub loop-k-preserved : goal.loop-k-preserved
-loop-k-preserved c = (
-  omega arith,
-  every_turn _ _ _ _ c.loop-k.invariant.1 (rw (c.fault_of.ensures, c.index-hours.ensures.0)),
-)
+pub returns : goal.returns
+returns c =
+    let list = c.args.list.now in
+    let passes : ℕ → Bool = λ x. is_ok (fault_of Hours 0 false x) in
+    let hours = between 3 (3 + c.args.parties) list in
+    every_of passes hours _ (
+    cases_from_all _ _ _ (λ x. passes x ≡ true) (λ x. passes x ≡ false) c.all.ensures.ran
+    (YieldsList-from_slice hours cc) (λ x q k. search (rules, tests)) (λ x q k. search (rules, tests))
+    ) ∙ every_part passes 3 c.args.parties list c.requires

@@ -9,6 +9,3 @@ abbrev pub invariant-loop-i : goal.invariant-loop-i
 invariant-loop-i l = (l.i ≤ l.growers)
     × (l.from ≡ 3 + l.growers + l.pilots + 5 * (l.i * l.pilots))
     × (l.pass ≡ every (λ p. row_passes l.list l.growers l.pilots p (3 + l.growers + l.pilots + 5 * (p * l.pilots))) l.i)
-
-abbrev pub decreases-loop-i : goal.decreases-loop-i
-decreases-loop-i l = l.growers - l.i

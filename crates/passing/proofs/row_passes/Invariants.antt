@@ -6,6 +6,3 @@ use Rattle.passing.proofs.row_passes.Given as goal
 
 abbrev pub invariant-loop-j : goal.invariant-loop-j
 invariant-loop-j l = (l.j ≤ l.pilots) × (l.at ≡ l.from + 5 * l.j) × (l.pass ≡ row_passes l.list l.growers l.j l.i l.from)
-
-abbrev pub decreases-loop-j : goal.decreases-loop-j
-decreases-loop-j l = l.pilots - l.j

@@ -7,6 +7,3 @@ use Rattle.places.proofs.of_list.Given as goal
 
 abbrev pub invariant-loop-k : goal.invariant-loop-k
 invariant-loop-k l = (l.k ≤ length l.list) × NoneBefore (faulty_at l.document l.list) l.k
-
-abbrev pub decreases-loop-k : goal.decreases-loop-k
-decreases-loop-k l = length l.list - l.k

@@ -1,18 +1,36 @@
--- `scanning::scan` meets its contract: two runs make a form (`scan_closes`). Assumes nothing.
-use mathlib.Core.Path.{◌∙◌}
+-- `scanning::scan` meets its contract: two runs make a form (`scan_is`).
+use mathlib.Core.Path.{sym}
 use native.Mathlib.Omega.{arith}
-use Rattle.scanning.proofs.Running.{source_ending, head_goes, scan_closes}
+use Rattle.scanning.proofs.Running.{met_is, head_goes, head_refused, body_refused, left_refused, read_whole}
 use Rattle.scanning.proofs.scan.Goals as goal
 
-pub body_of-count-requires : goal.body_of-count-requires
-body_of-count-requires c = (head_goes _ _ _ _ (rw c.begun.ensures at c.walk-head.ensures)).0
+pub returns-in_err-head : goal.returns-in_err-head
+returns-in_err-head g c =
+    rw (met_is c.from_residual.result _ c.from_residual.ensures.1)
+    (head_refused _ _ _ g.met.S.Source.ending _ (rw c.begun.ensures at c.in_err-head.ensures))
 
-pub walk-body-requires : goal.walk-body-requires
-walk-body-requires c = let h = head_goes _ _ _ _ (rw c.begun.ensures at c.walk-head.ensures) in
-    record { known = h.0; count_bound = omega (arith, h.1, c.body_of-count.ensures.1) }
+pub body_of-count-requires : goal.body_of-count-requires
+body_of-count-requires g c = (head_goes _ _ _ _ (sym (rw c.begun.ensures at c.in_ok-head.ensures))).0
+
+pub walk-requires-2-clause-known : goal.walk-requires-2-clause-known
+walk-requires-2-clause-known g c = (head_goes _ _ _ _ (sym (rw c.begun.ensures at c.in_ok-head.ensures))).0
+
+pub walk-requires-2-clause-count_bound : goal.walk-requires-2-clause-count_bound
+walk-requires-2-clause-count_bound g c =
+    omega (arith, (head_goes _ _ _ _ (sym (rw c.begun.ensures at c.in_ok-head.ensures))).1, c.body_of-count.ensures.1)
+
+pub returns-in_err-end : goal.returns-in_err-end
+returns-in_err-end g c =
+    rw (met_is c.from_residual-in_err-end.result _ c.from_residual-in_err-end.ensures.1)
+    (body_refused _ _ _ g.met.S.Source.ending _ _ (rw c.begun.ensures at c.in_ok-head.ensures) c.body_of-count.ensures.0 _ c.in_err-end.ensures)
+
+pub returns-then-end-places : goal.returns-then-end-places
+returns-then-end-places g c =
+    rw c.refusals_of.ensures
+    (left_refused _ _ _ g.met.S.Source.ending _ _ (rw c.begun.ensures at c.in_ok-head.ensures) c.body_of-count.ensures.0 _ c.in_ok-end.ensures
+    (rw c.places.ensures at c.if-end-places.true))
 
 pub returns : goal.returns
-returns c = let a = c.args in
-    rw c.length_of.ensures at c.close.ensures
-    ∙ scan_closes _ _ _ (source_ending a.source) _ _ _ (rw c.begun.ensures at c.walk-head.ensures)
-    c.body_of-count.ensures.0 c.walk-body.ensures
+returns g c =
+    read_whole _ _ _ g.met.S.Source.ending _ _ (rw c.begun.ensures at c.in_ok-head.ensures) c.body_of-count.ensures.0 _ c.in_ok-end.ensures
+    (rw c.places.ensures at c.if-end-places.false)

@@ -20,8 +20,8 @@ returns c = let xs = c.args.ticket.now in
     let en : n ≡ min 16 (growers_of xs) = c.within-growers.ensures.0 ∙ ap (min 16) c.growers.ensures.0 in
     let em : m ≡ min 16 (pilots_of xs) = c.within-pilots.ensures.0 ∙ ap (min 16) c.pilots.ensures.0 in
     let same = first-same xs (min 16 n) (min 16 m) (omega (arith, en)) (omega (arith, em)) (record {
-      grower_hours_in = c.grower_hours-grower_hours.ensures;
-      pilot_hours_in = c.pilot_hours-pilot_hours.ensures;
+      grower_hours_in = c.hours-grower_hours.ensures;
+      pilot_hours_in = c.hours-pilot_hours.ensures;
       tariff_cap_in = filled_zeros _ _ _ _ _ c.zeros-tariff_cap.ensures.1 c.fill.ensures;
       tariff_gain_in = filled_zeros _ _ _ _ _ c.zeros-tariff_gain.ensures.1 c.fill-2.ensures;
       tariff_pay_in = filled_zeros _ _ _ _ _ c.zeros-tariff_pay.ensures.1 c.fill-3.ensures;

@@ -7,6 +7,3 @@ use Rattle.sheets.proofs.copy.Given as goal
 
 abbrev pub invariant-loop-k : goal.invariant-loop-k
 invariant-loop-k l = (l.k ≤ l.end) × (length l.text ≡ length l.initial.text) × (l.text ≡ front l.page l.k l.initial.text)
-
-abbrev pub decreases-loop-k : goal.decreases-loop-k
-decreases-loop-k l = l.end - l.k

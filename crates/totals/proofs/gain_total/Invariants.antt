@@ -14,12 +14,6 @@ invariant-loop-j l = (l.j ≤ l.columns) ×
     (l.total ≤ 68719476736 * l.i + 4294967296 * l.j) ×
     (l.total ≡ sum_square (gain_of l.free_deal_hours l.joint_gain) l.i l.columns + sum (gain_of l.free_deal_hours l.joint_gain l.i) l.j)
 
-abbrev pub decreases-loop-j : goal.decreases-loop-j
-decreases-loop-j l = l.columns - l.j
-
 abbrev pub invariant-loop-i : goal.invariant-loop-i
 invariant-loop-i l = (l.i ≤ l.rows) × (l.total ≤ 68719476736 * l.i) ×
     (l.total ≡ sum_square (gain_of l.free_deal_hours l.joint_gain) l.i l.columns)
-
-abbrev pub decreases-loop-i : goal.decreases-loop-i
-decreases-loop-i l = l.rows - l.i

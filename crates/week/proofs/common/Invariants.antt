@@ -13,6 +13,3 @@ both a b x = get_or a x false && get_or b x false
 
 abbrev pub invariant-loop-h : goal.invariant-loop-h
 invariant-loop-h l = (l.h ≤ 168) × (l.count ≡ count_to (both l.a l.b) l.h)
-
-abbrev pub decreases-loop-h : goal.decreases-loop-h
-decreases-loop-h l = 168 - l.h

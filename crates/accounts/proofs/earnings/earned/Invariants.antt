@@ -7,6 +7,3 @@ use Rattle.accounts.proofs.earnings.earned.Given as goal
 abbrev pub invariant-loop-l : goal.invariant-loop-l
 invariant-loop-l l = (l.l ≤ l.partners) × (l.total ≤ 8589934592 * l.l) ×
     (l.total ≡ earned_in l.tariff_hours l.free_deal_hours l.tariff l.whole l.given l.l)
-
-abbrev pub decreases-loop-l : goal.decreases-loop-l
-decreases-loop-l l = l.partners - l.l

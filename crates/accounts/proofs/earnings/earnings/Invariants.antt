@@ -8,6 +8,3 @@ use Rattle.accounts.proofs.earnings.earnings.Given as goal
 abbrev pub invariant-loop-p : goal.invariant-loop-p
 invariant-loop-p l = (l.p ≤ l.count) ×
     Made 0 (λ k amount. amount ≡ earned_at l.tariff_hours l.free_deal_hours l.tariff l.whole l.given l.partners k) l.p l.all
-
-abbrev pub decreases-loop-p : goal.decreases-loop-p
-decreases-loop-p l = l.count - l.p

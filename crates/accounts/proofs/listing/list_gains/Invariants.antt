@@ -7,6 +7,3 @@ use Rattle.accounts.proofs.listing.list_gains.Given as goal
 
 abbrev pub invariant-loop-i : goal.invariant-loop-i
 invariant-loop-i l = (l.i ≤ l.growers) × Listed l.initial.list l.list 0 (each (λ k. gain_listed (get_or l.gains k 0)) l.i)
-
-abbrev pub decreases-loop-i : goal.decreases-loop-i
-decreases-loop-i l = l.growers - l.i

@@ -7,6 +7,3 @@ use Rattle.accounts.proofs.listing.list_pays.Given as goal
 
 abbrev pub invariant-loop-j : goal.invariant-loop-j
 invariant-loop-j l = (l.j ≤ l.pilots) × Listed l.initial.list l.list l.from (each (λ k. pay_listed (get_or l.pays k 0)) l.j)
-
-abbrev pub decreases-loop-j : goal.decreases-loop-j
-decreases-loop-j l = l.pilots - l.j

@@ -7,6 +7,3 @@ use Rattle.c_answers.proofs.lending.copy_front.Given as goal
 
 abbrev pub invariant-loop-k : goal.invariant-loop-k
 invariant-loop-k l = (l.k ≤ l.count) × (length l.list ≡ length l.initial.list) × (length l.from ≡ 48) × Wrote l.initial.list l.list 0 l.k (take l.k l.from)
-
-abbrev pub decreases-loop-k : goal.decreases-loop-k
-decreases-loop-k l = l.count - l.k

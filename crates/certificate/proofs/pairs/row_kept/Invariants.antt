@@ -7,6 +7,3 @@ use Rattle.certificate.proofs.pairs.row_kept.Given as goal
 abbrev pub invariant-loop-j : goal.invariant-loop-j
 invariant-loop-j l = (l.j ≤ l.count) × (l.kept ≡ row_kept l.grower l.free l.standby l.least l.tariff_cap l.tariff_gain l.tariff_pay l.free_cap
     l.joint_gain l.tariff_hours l.free_deal_hours l.pay l.j)
-
-abbrev pub decreases-loop-j : goal.decreases-loop-j
-decreases-loop-j l = l.count - l.j

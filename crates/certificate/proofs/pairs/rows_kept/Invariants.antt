@@ -7,6 +7,3 @@ use Rattle.certificate.proofs.pairs.rows_kept.Given as goal
 abbrev pub invariant-loop-i : goal.invariant-loop-i
 invariant-loop-i l = (l.i ≤ l.n) × (l.kept ≡ rows_kept l.free l.standby l.least l.pilots_free l.pilots_standby l.pilots_least l.m l.tariff_cap l.tariff_gain l.tariff_pay
     l.free_cap l.joint_gain l.tariff_hours l.free_deal_hours l.pay l.i)
-
-abbrev pub decreases-loop-i : goal.decreases-loop-i
-decreases-loop-i l = l.n - l.i

@@ -6,6 +6,3 @@ use Rattle.certificate.proofs.parties.least_earned.Given as goal
 
 abbrev pub invariant-loop-l : goal.invariant-loop-l
 invariant-loop-l l = (l.l ≤ l.partners) × (l.least ≡ least_in l.tariff l.earned l.free l.share l.l)
-
-abbrev pub decreases-loop-l : goal.decreases-loop-l
-decreases-loop-l l = l.partners - l.l

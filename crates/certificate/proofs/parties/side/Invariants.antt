@@ -13,6 +13,3 @@ abbrev pub invariant-loop-p : goal.invariant-loop-p
 invariant-loop-p l = (l.p ≤ l.count) × (l.fits ≡ every (λ k. leb (used_in (get_or l.tariff k []) (get_or l.free k []) l.partners) (line l.own k)) l.p) ×
     Made 0 (λ k v. v ≡ (party_at l.partners l.own l.standby l.tariff l.earned l.free l.share k).free) l.p l.unused ×
     Made 0 (λ k v. v ≡ (party_at l.partners l.own l.standby l.tariff l.earned l.free l.share k).least) l.p l.least
-
-abbrev pub decreases-loop-p : goal.decreases-loop-p
-decreases-loop-p l = l.count - l.p

@@ -7,6 +7,3 @@ use Rattle.desk_calls.proofs.number.number.Given as goal
 
 abbrev pub invariant-loop-k : goal.invariant-loop-k
 invariant-loop-k l = (l.k ≤ l.k-end) × (l.value ≤ 65536) × (with_digits l.value (drop l.k l.word) ≡ with_digits 0 l.word)
-
-abbrev pub decreases-loop-k : goal.decreases-loop-k
-decreases-loop-k l = l.k-end - l.k

@@ -6,6 +6,3 @@ use Rattle.desk_calls.proofs.split.first_sought.Given as goal
 
 abbrev pub invariant-loop-k : goal.invariant-loop-k
 invariant-loop-k l = (l.k ≤ l.k-end) × NoneBefore (sought_at l.blanks l.text) l.k
-
-abbrev pub decreases-loop-k : goal.decreases-loop-k
-decreases-loop-k l = l.k-end - l.k

@@ -6,6 +6,3 @@ use Rattle.desk_calls.proofs.split.word.Given as goal
 
 abbrev pub invariant-loop-k : goal.invariant-loop-k
 invariant-loop-k l = (l._k ≤ l.place) × (word l.rest (l.place - l._k) ≡ word l.line l.place)
-
-abbrev pub decreases-loop-k : goal.decreases-loop-k
-decreases-loop-k l = l.place - l._k

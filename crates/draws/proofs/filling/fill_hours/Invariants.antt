@@ -5,6 +5,3 @@ use Rattle.draws.proofs.filling.fill_hours.Given as goal
 
 abbrev pub invariant-loop-k : goal.invariant-loop-k
 invariant-loop-k l = HoursLeft l.initial.list l.from l.count l.x l.list l.here l.without l.k
-
-abbrev pub decreases-loop-k : goal.decreases-loop-k
-decreases-loop-k l = l.count - l.k

@@ -6,6 +6,3 @@ use Rattle.draws.proofs.filling.fill_pairs.Given as goal
 
 abbrev pub invariant-loop-k : goal.invariant-loop-k
 invariant-loop-k l = PairsLeft (none_of l.hours.without l.growers l.pilots) l.initial.list l.from l.count l.hours.number l.list l.here l.k
-
-abbrev pub decreases-loop-k : goal.decreases-loop-k
-decreases-loop-k l = l.count - l.k

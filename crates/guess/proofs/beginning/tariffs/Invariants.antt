@@ -4,6 +4,3 @@ use Rattle.guess.proofs.beginning.tariffs.Given as goal
 
 abbrev pub invariant-loop-i : goal.invariant-loop-i
 invariant-loop-i l = l.i ≤ l.growers
-
-abbrev pub decreases-loop-i : goal.decreases-loop-i
-decreases-loop-i l = l.growers - l.i

@@ -4,6 +4,3 @@ use Rattle.guess.proofs.requests.run.Given as goal
 
 abbrev pub invariant-loop-turn : goal.invariant-loop-turn
 invariant-loop-turn l = l.turn ≤ 20000
-
-abbrev pub decreases-loop-turn : goal.decreases-loop-turn
-decreases-loop-turn l = 20000 - l.turn

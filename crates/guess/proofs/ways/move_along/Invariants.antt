@@ -4,6 +4,3 @@ use Rattle.guess.proofs.ways.move_along.Given as goal
 
 abbrev pub invariant-loop-step : goal.invariant-loop-step
 invariant-loop-step l = l.step ≤ 16
-
-abbrev pub decreases-loop-step : goal.decreases-loop-step
-decreases-loop-step l = 16 - l.step

@@ -7,6 +7,3 @@ use Rattle.layouts.proofs.reading.walk.Given as goal
 
 abbrev pub invariant-loop-k : goal.invariant-loop-k
 invariant-loop-k l = (l.k ≤ 65536) × Walking l.layout l.text l.list l.at l.k × (length l.list ≡ length l.initial.list)
-
-abbrev pub decreases-loop-k : goal.decreases-loop-k
-decreases-loop-k l = 65536 - l.k

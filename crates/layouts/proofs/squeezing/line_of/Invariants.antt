@@ -5,6 +5,3 @@ use Rattle.layouts.proofs.squeezing.line_of.Given as goal
 
 abbrev pub invariant-loop-j : goal.invariant-loop-j
 invariant-loop-j l = (l.j ≤ l.j-end) × Counting l.text l.k l.mode l.line l.left l.j
-
-abbrev pub decreases-loop-j : goal.decreases-loop-j
-decreases-loop-j l = l.j-end - l.j

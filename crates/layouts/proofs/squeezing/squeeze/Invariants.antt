@@ -5,6 +5,3 @@ use Rattle.layouts.proofs.squeezing.squeeze.Given as goal
 
 abbrev pub invariant-loop-k : goal.invariant-loop-k
 invariant-loop-k l = (l.k ≤ l.k-end) × Squeezing l.initial.page l.page l.text l.mode l.count l.k
-
-abbrev pub decreases-loop-k : goal.decreases-loop-k
-decreases-loop-k l = l.k-end - l.k

@@ -5,6 +5,3 @@ use Rattle.lists.proofs.text.walk.Given as goal
 
 abbrev pub invariant-loop-k : goal.invariant-loop-k
 invariant-loop-k l = (l.k ≤ l.k-end) × Reading l.text l.initial.list l.list l.mode l.passed l.count l.k
-
-abbrev pub decreases-loop-k : goal.decreases-loop-k
-decreases-loop-k l = l.k-end - l.k

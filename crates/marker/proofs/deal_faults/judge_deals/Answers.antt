@@ -37,9 +37,9 @@ returns-after-search c = λ o. let a = c.args in
     deals_judged_lem (ticket_from o) (settlement_from o) _
     (none_le _ _ _ (c.search.invariant.1 o) (omega (arith, ap (λ (k : ℕ). k * a.m) e))) _ c.search.invariant.2
 
-pub returns-in-Fault : goal.returns-in-Fault
-returns-in-Fault c = λ o. deal_judged (ticket_from o) (settlement_from o) c.search.i c.loop-j.j c.search-test.true
+pub returns-in-Some : goal.returns-in-Some
+returns-in-Some c = λ o. deal_judged (ticket_from o) (settlement_from o) c.search.i c.loop-j.j c.search-test.true
     c.loop-j-test.true c.loop-fault.deal (c.loop-fault.invariant.0 o) _ ((c.deal_fault-found.ensures
     ∙ deal_found_is o c.search.i c.loop-j.j c.search-test.true
     c.loop-j-test.true c.loop-fault.deal)) _ _
-    c.in-Fault.is
+    c.in-Some.is

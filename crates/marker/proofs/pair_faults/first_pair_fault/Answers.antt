@@ -11,8 +11,8 @@ use Rattle.verdicts.specs.Faults.{found_if}
 use Rattle.marker.proofs.Verdicts.{found_holds, found_fails, found_first, found_none, pair_found}
 use Rattle.marker.proofs.pair_faults.first_pair_fault.Goals as goal
 
-pub returns-in-Fault : goal.returns-in-Fault
-returns-in-Fault c = let a = c.args in
+pub returns-in-Some : goal.returns-in-Some
+returns-in-Some c = let a = c.args in
     let h = found_holds _ _ _ _ ((let h0 : let t = (let a = c.args in ticket_in a.n a.m [] [] a.tariff_cap [] [] a.free_cap a.joint_gain) in
     let x = (let a = c.args in settlement_in a.tariff_hours a.free_deal_hours a.pay) in
     let p = c.loop-i.i * c.args.m +
@@ -20,7 +20,7 @@ returns-in-Fault c = let a = c.args in
     c.pair_fault-found.result ≡ found_if (pair_fault_at t x p) (by_pair (pair_verdict t x) c.args.m p) = pair_found ((let a = c.args in ticket_in a.n a.m [] [] a.tariff_cap [] [] a.free_cap a.joint_gain)) ((let a = c.args in settlement_in a.tariff_hours a.free_deal_hours a.pay))
     c.loop-i.i
     c.loop-j.j
-    c.loop-j-test.true _ c.pair_fault-found.ensures in h0)) c.in-Fault.is in
+    c.loop-j-test.true _ c.pair_fault-found.ensures in h0)) c.in-Some.is in
     found_first _ (a.n * a.m) (by_pair (pair_verdict
     ((let a = c.args in ticket_in a.n a.m [] [] a.tariff_cap [] [] a.free_cap a.joint_gain))
     ((let a = c.args in settlement_in a.tariff_hours a.free_deal_hours a.pay))) a.m) _

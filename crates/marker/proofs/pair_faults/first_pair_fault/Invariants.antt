@@ -10,12 +10,6 @@ abbrev pub invariant-loop-j : goal.invariant-loop-j
 invariant-loop-j l = (l.j ≤ l.m) ×
     NoneBefore (pair_fault_at (ticket_in l.n l.m [] [] l.tariff_cap [] [] l.free_cap l.joint_gain) (settlement_in l.tariff_hours l.free_deal_hours l.pay)) (l.i * l.m + l.j)
 
-abbrev pub decreases-loop-j : goal.decreases-loop-j
-decreases-loop-j l = l.m - l.j
-
 abbrev pub invariant-loop-i : goal.invariant-loop-i
 invariant-loop-i l = (l.i ≤ l.n) ×
     NoneBefore (pair_fault_at (ticket_in l.n l.m [] [] l.tariff_cap [] [] l.free_cap l.joint_gain) (settlement_in l.tariff_hours l.free_deal_hours l.pay)) (l.i * l.m)
-
-abbrev pub decreases-loop-i : goal.decreases-loop-i
-decreases-loop-i l = l.n - l.i

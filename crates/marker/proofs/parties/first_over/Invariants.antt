@@ -7,6 +7,3 @@ use Rattle.marker.proofs.parties.first_over.Given as goal
 
 abbrev pub invariant-loop-p : goal.invariant-loop-p
 invariant-loop-p l = (l.p ≤ l.count) × NoneBefore (λ q. is_over (get_or l.parties q nobody)) l.p
-
-abbrev pub decreases-loop-p : goal.decreases-loop-p
-decreases-loop-p l = l.count - l.p

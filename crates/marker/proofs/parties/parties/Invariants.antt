@@ -8,6 +8,3 @@ use Rattle.marker.proofs.parties.parties.Given as goal
 abbrev pub invariant-loop-p : goal.invariant-loop-p
 invariant-loop-p l = (l.p ≤ l.count) ×
     Made nobody (λ k q. q ≡ party_at l.hours l.tariff_hours l.free_deal_hours l.earned l.share l.partners k) l.p l.all
-
-abbrev pub decreases-loop-p : goal.decreases-loop-p
-decreases-loop-p l = l.count - l.p

@@ -6,6 +6,3 @@ use Rattle.marker.proofs.parties.used.Given as goal
 
 abbrev pub invariant-loop-l : goal.invariant-loop-l
 invariant-loop-l l = (l.l ≤ l.partners) × (l.total ≤ 131070 * l.l) × (l.total ≡ used_in l.tariff l.free l.l)
-
-abbrev pub decreases-loop-l : goal.decreases-loop-l
-decreases-loop-l l = l.partners - l.l

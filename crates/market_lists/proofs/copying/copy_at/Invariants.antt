@@ -7,6 +7,3 @@ use Rattle.market_lists.proofs.copying.copy_at.Given as goal
 
 abbrev pub invariant-loop-k : goal.invariant-loop-k
 invariant-loop-k l = (l.k ≤ length l.numbers) × (length l.list ≡ length l.initial.list) × Wrote l.initial.list l.list l.at (l.at + l.k) (take l.k l.numbers)
-
-abbrev pub decreases-loop-k : goal.decreases-loop-k
-decreases-loop-k l = length l.numbers - l.k

@@ -5,6 +5,3 @@ use Rattle.method.proofs.changes.age.Given as goal
 
 abbrev pub invariant-loop-i : goal.invariant-loop-i
 invariant-loop-i l = (l.i ≤ l.growers) × Full l.next × Aged l.initial.next l.next l.j l.i
-
-abbrev pub decreases-loop-i : goal.decreases-loop-i
-decreases-loop-i l = l.growers - l.i

@@ -8,6 +8,3 @@ use Rattle.method.proofs.choice.best_deal.Given as goal
 abbrev pub invariant-loop-j : goal.invariant-loop-j
 invariant-loop-j l = (l.j ≤ l.pilots) × (l.pilot < 16) ×
     Peak (chance (alone l.pilots 0 l.terms) (line l.price) (held_by l.agreed) 0) l.j l.top l.pilot
-
-abbrev pub decreases-loop-j : goal.decreases-loop-j
-decreases-loop-j l = l.pilots - l.j

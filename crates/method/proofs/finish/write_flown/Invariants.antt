@@ -11,12 +11,6 @@ abbrev pub invariant-loop-j : goal.invariant-loop-j
 invariant-loop-j l = (l.j ≤ l.pilots) × RowPart (hours_of (held_in l.held) Tariff) l.pilots l.i l.j l.initial.tariff_hours l.tariff_hours ×
     RowPart (hours_of (held_in l.held) Free) l.pilots l.i l.j l.initial.free_deal_hours l.free_deal_hours × RowPart (pays_of l.held l.price l.shift) l.pilots l.i l.j l.initial.pay l.pay
 
-abbrev pub decreases-loop-j : goal.decreases-loop-j
-decreases-loop-j l = l.pilots - l.j
-
 abbrev pub invariant-loop-i : goal.invariant-loop-i
 invariant-loop-i l = (l.i ≤ l.growers) × Part l.initial.tariff_hours (hours_of (held_in l.held) Tariff) l.pilots l.i 0 l.tariff_hours ×
     Part l.initial.free_deal_hours (hours_of (held_in l.held) Free) l.pilots l.i 0 l.free_deal_hours × Part l.initial.pay (pays_of l.held l.price l.shift) l.pilots l.i 0 l.pay
-
-abbrev pub decreases-loop-i : goal.decreases-loop-i
-decreases-loop-i l = l.growers - l.i

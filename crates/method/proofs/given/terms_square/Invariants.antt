@@ -10,12 +10,6 @@ abbrev pub invariant-loop-j : goal.invariant-loop-j
 invariant-loop-j l = (l.j ≤ l.pilots) ×
     MadeTo no_terms (λ a b terms. terms ≡ terms_from l.tariff_cap l.tariff_gain l.tariff_pay l.free_cap l.joint_gain a b) l.pilots l.i l.j l.square
 
-abbrev pub decreases-loop-j : goal.decreases-loop-j
-decreases-loop-j l = l.pilots - l.j
-
 abbrev pub invariant-loop-i : goal.invariant-loop-i
 invariant-loop-i l = (l.i ≤ l.growers) ×
     MadeTo no_terms (λ a b terms. terms ≡ terms_from l.tariff_cap l.tariff_gain l.tariff_pay l.free_cap l.joint_gain a b) l.pilots l.i 0 l.square
-
-abbrev pub decreases-loop-i : goal.decreases-loop-i
-decreases-loop-i l = l.growers - l.i

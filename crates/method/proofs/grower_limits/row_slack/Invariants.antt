@@ -9,6 +9,3 @@ invariant-loop-j l = (l.j ≤ l.pilots) × (l.paid ≤ l.bound) ×
     TariffsBear (alone l.pilots 0 l.terms) (among l.marks) (line l.price) (held_by l.agreed) 0 l.j l.paid ×
     WorthAtLeast (alone l.pilots 0 l.terms) (among l.marks) (line l.price) (held_by l.agreed) 0 l.j l.low ×
     OffersAtMost (alone l.pilots 0 l.terms) (among l.marks) (line l.price) (held_by l.agreed) 0 l.j l.top
-
-abbrev pub decreases-loop-j : goal.decreases-loop-j
-decreases-loop-j l = l.pilots - l.j

@@ -5,6 +5,3 @@ use Rattle.method.proofs.jumps.raised.Given as goal
 
 abbrev pub invariant-loop-j : goal.invariant-loop-j
 invariant-loop-j l = (l.j ≤ l.pilots) × Raising l.initial.price l.price l.marks l.j l.x
-
-abbrev pub decreases-loop-j : goal.decreases-loop-j
-decreases-loop-j l = l.pilots - l.j

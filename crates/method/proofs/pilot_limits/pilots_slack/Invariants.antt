@@ -6,6 +6,3 @@ use Rattle.method.proofs.pilot_limits.pilots_slack.Given as goal
 
 abbrev pub invariant-loop-j : goal.invariant-loop-j
 invariant-loop-j l = (l.j ≤ l.pilots) × PilotsBear (among l.marks) (line l.free) (line l.price) l.j l.by
-
-abbrev pub decreases-loop-j : goal.decreases-loop-j
-decreases-loop-j l = l.pilots - l.j

@@ -8,11 +8,5 @@ use Rattle.method.proofs.rises.rise.Given as goal
 abbrev pub invariant-loop-step : goal.invariant-loop-step
 invariant-loop-step l = (0 < l.growers → l.i < l.growers) × (l.same ≤ 16) × (l.step ≤ 256)
 
-abbrev pub decreases-loop-step : goal.decreases-loop-step
-decreases-loop-step l = 256 - l.step
-
 abbrev pub invariant-loop-k : goal.invariant-loop-k
 invariant-loop-k l = (l.k ≤ l.growers) × (l.by ≤ l.initial.by) × GrowersBear (ticket l.growers l.pilots [] [] l.terms) (among l.marks) (line l.price) (held_in l.held) l.k l.by
-
-abbrev pub decreases-loop-k : goal.decreases-loop-k
-decreases-loop-k l = l.growers - l.k

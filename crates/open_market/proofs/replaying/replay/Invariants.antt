@@ -6,6 +6,3 @@ use Rattle.open_market.proofs.replaying.replay.Given as goal
 
 abbrev pub invariant-loop-k : goal.invariant-loop-k
 invariant-loop-k l = (l.k ≤ l.end) × Done l.initial.answer.market (first_calls l.calls l.k) l.answer
-
-abbrev pub decreases-loop-k : goal.decreases-loop-k
-decreases-loop-k l = l.end - l.k

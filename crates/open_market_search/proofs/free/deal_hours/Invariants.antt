@@ -4,6 +4,3 @@ use Rattle.open_market_search.proofs.free.deal_hours.Given as goal
 
 abbrev pub invariant-loop-pair : goal.invariant-loop-pair
 invariant-loop-pair l = (l.pair ≤ l.end) × (l.end ≤ 4) × (l.hours ≤ 131072 * l.pair)
-
-abbrev pub decreases-loop-pair : goal.decreases-loop-pair
-decreases-loop-pair l = l.end - l.pair

@@ -4,6 +4,3 @@ use Rattle.open_market_search.proofs.grids.of_grid.Given as goal
 
 abbrev pub invariant-loop-turn : goal.invariant-loop-turn
 invariant-loop-turn l = l.turn ≤ 10000
-
-abbrev pub decreases-loop-turn : goal.decreases-loop-turn
-decreases-loop-turn l = 10000 - l.turn

@@ -4,6 +4,3 @@ use Rattle.open_market_search.proofs.held.same_ticket.Given as goal
 
 abbrev pub invariant-loop-place : goal.invariant-loop-place
 invariant-loop-place l = l.place ≤ 1315
-
-abbrev pub decreases-loop-place : goal.decreases-loop-place
-decreases-loop-place l = 1315 - l.place

@@ -4,6 +4,3 @@ use Rattle.open_market_search.proofs.opened.numbers_of.Given as goal
 
 abbrev pub invariant-loop-place : goal.invariant-loop-place
 invariant-loop-place l = l.place ≤ 27
-
-abbrev pub decreases-loop-place : goal.decreases-loop-place
-decreases-loop-place l = 27 - l.place

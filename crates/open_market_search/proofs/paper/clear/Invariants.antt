@@ -4,6 +4,3 @@ use Rattle.open_market_search.proofs.paper.clear.Given as goal
 
 abbrev pub invariant-loop-after : goal.invariant-loop-after
 invariant-loop-after l = l.after ≤ 20
-
-abbrev pub decreases-loop-after : goal.decreases-loop-after
-decreases-loop-after l = 20 - l.after

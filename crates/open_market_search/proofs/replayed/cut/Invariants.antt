@@ -4,6 +4,3 @@ use Rattle.open_market_search.proofs.replayed.cut.Given as goal
 
 abbrev pub invariant-loop-by : goal.invariant-loop-by
 invariant-loop-by l = l.by ≤ 8
-
-abbrev pub decreases-loop-by : goal.decreases-loop-by
-decreases-loop-by l = 8 - l.by

@@ -3,6 +3,3 @@ use Rattle.plain.proofs.faults.some_pilot_spare.Given as goal
 
 abbrev pub invariant-loop-source : goal.invariant-loop-source
 invariant-loop-source l = l.source ≤ l.source-end
-
-abbrev pub decreases-loop-source : goal.decreases-loop-source
-decreases-loop-source l = l.source-end - l.source

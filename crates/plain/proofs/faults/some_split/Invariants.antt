@@ -3,6 +3,3 @@ use Rattle.plain.proofs.faults.some_split.Given as goal
 
 abbrev pub invariant-loop-x : goal.invariant-loop-x
 invariant-loop-x l = l.x ≤ l.x-end
-
-abbrev pub decreases-loop-x : goal.decreases-loop-x
-decreases-loop-x l = l.x-end - l.x

@@ -3,6 +3,3 @@ use Rattle.plain.proofs.refusals.is_refused.Given as goal
 
 abbrev pub invariant-loop-deal : goal.invariant-loop-deal
 invariant-loop-deal l = l.deal ≤ l.deal-end
-
-abbrev pub decreases-loop-deal : goal.decreases-loop-deal
-decreases-loop-deal l = l.deal-end - l.deal

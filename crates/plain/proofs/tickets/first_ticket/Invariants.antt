@@ -3,6 +3,3 @@ use Rattle.plain.proofs.tickets.first_ticket.Given as goal
 
 abbrev pub invariant-loop-place : goal.invariant-loop-place
 invariant-loop-place l = (l.place ≤ l.place-end) × (l.place-end < 8)
-
-abbrev pub decreases-loop-place : goal.decreases-loop-place
-decreases-loop-place l = l.place-end - l.place

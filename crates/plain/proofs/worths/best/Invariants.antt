@@ -3,6 +3,3 @@ use Rattle.plain.proofs.worths.best.Given as goal
 
 abbrev pub invariant-loop-turn : goal.invariant-loop-turn
 invariant-loop-turn l = l.turn ≤ 1000000
-
-abbrev pub decreases-loop-turn : goal.decreases-loop-turn
-decreases-loop-turn l = 1000000 - l.turn

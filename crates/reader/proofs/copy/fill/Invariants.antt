@@ -7,6 +7,3 @@ use Rattle.reader.proofs.copy.fill.Given as goal
 
 abbrev pub invariant-loop-k : goal.invariant-loop-k
 invariant-loop-k l = (l.k ≤ l.count) × Filling l.s l.initial.list l.list (first_numbers l.count l.s) l.here l.k
-
-abbrev pub decreases-loop-k : goal.decreases-loop-k
-decreases-loop-k l = l.count - l.k

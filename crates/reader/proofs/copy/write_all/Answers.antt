@@ -1,12 +1,12 @@
 -- `reader::copy::write_all` meets its contract: the invariant is `Packing`: the bytes that are left, written from here on, make the
 -- whole. Assumes nothing.
+use mathlib.Core.Path.{refl}
+use native.Mathlib.Omega.{arith}
 use Rattle.reader.proofs.Packing.{packing_turns}
 use Rattle.reader.proofs.copy.write_all.Goals as goal
 
-pub loop-k-preserved : goal.loop-k-preserved
-loop-k-preserved c = packing_turns
-    c.loop-k.invariant
-    _
-    c.loop-k-test.true
-    c.index.ensures.0
-    _ _ c.write-here.ensures.0 c.write-here.ensures.1
+pub loop-x-preserved : goal.loop-x-preserved
+loop-x-preserved c = (
+  c.loop-x.invariant.0,
+  packing_turns c.loop-x.invariant.1 _ (omega arith) c.index.ensures.0 _ _ c.write-here.ensures.0 c.write-here.ensures.1,
+)

@@ -4,6 +4,3 @@ use Rattle.script.proofs.list.as_bytes.Given as goal
 
 abbrev pub invariant-loop-k : goal.invariant-loop-k
 invariant-loop-k l = l.k ≤ 2200
-
-abbrev pub decreases-loop-k : goal.decreases-loop-k
-decreases-loop-k l = 2200 - l.k

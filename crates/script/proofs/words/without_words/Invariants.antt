@@ -4,6 +4,3 @@ use Rattle.script.proofs.words.without_words.Given as goal
 
 abbrev pub invariant-loop-k : goal.invariant-loop-k
 invariant-loop-k l = l.initial._k ≤ l._k
-
-abbrev pub decreases-loop-k : goal.decreases-loop-k
-decreases-loop-k l = l.count - l._k

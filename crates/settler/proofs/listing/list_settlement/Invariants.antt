@@ -6,6 +6,3 @@ use Rattle.settler.proofs.listing.list_settlement.Given as goal
 abbrev pub invariant-loop-k : goal.invariant-loop-k
 invariant-loop-k l = (l.k ≤ l.pairs) × ListedTo l.growers l.pilots l.tariff_hours
     l.free_deal_hours l.pay l.k l.list
-
-abbrev pub decreases-loop-k : goal.decreases-loop-k
-decreases-loop-k l = l.pairs - l.k

@@ -7,6 +7,3 @@ use Rattle.sheets.proofs.pairs.pair_lines.Given as goal
 
 abbrev pub invariant-loop-p : goal.invariant-loop-p
 invariant-loop-p l = (l.p ≤ l.end) × Wrote l.initial.page l.page l.at l.here (pair_lines (line_in l.tariff_hours l.tariff_gain l.tariff_pay l.free_deal_hours l.joint_gain l.pay) l.pilots l.p)
-
-abbrev pub decreases-loop-p : goal.decreases-loop-p
-decreases-loop-p l = l.end - l.p

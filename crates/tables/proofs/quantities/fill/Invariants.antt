@@ -10,11 +10,5 @@ invariant-loop-j l = (l.j ≤ l.columns)
     × ((l.place ≡ l.spread.first + l.each * (l.i * l.m + l.j)) × (l.place ≤ 6000000 + 6 * l.j))
     × RowPart (spread_over l.list l.spread.first l.each l.m) l.columns l.i l.j l.initial.into l.into
 
-abbrev pub decreases-loop-j : goal.decreases-loop-j
-decreases-loop-j l = l.columns - l.j
-
 abbrev pub invariant-loop-i : goal.invariant-loop-i
 invariant-loop-i l = (l.i ≤ l.rows) × Part l.initial.into (spread_over l.list l.spread.first l.each l.m) l.columns l.i 0 l.into
-
-abbrev pub decreases-loop-i : goal.decreases-loop-i
-decreases-loop-i l = l.rows - l.i

@@ -6,6 +6,3 @@ use Rattle.tables.proofs.quantities.row.Given as goal
 
 abbrev pub invariant-loop-i : goal.invariant-loop-i
 invariant-loop-i l = (l.i ≤ l.end) × FilledRow (λ k. get_or l.list (l.from + k) 0) l.i l.r
-
-abbrev pub decreases-loop-i : goal.decreases-loop-i
-decreases-loop-i l = l.end - l.i

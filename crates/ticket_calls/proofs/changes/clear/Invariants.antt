@@ -6,6 +6,3 @@ use Rattle.ticket_calls.proofs.changes.clear.Given as goal
 
 abbrev pub invariant-loop-k : goal.invariant-loop-k
 invariant-loop-k l = (l.k ≤ l.count) × (l.ticket ≡ cleared l.party l.k l.initial.ticket)
-
-abbrev pub decreases-loop-k : goal.decreases-loop-k
-decreases-loop-k l = l.count - l.k

@@ -7,6 +7,3 @@ use Rattle.verdicts.proofs.cheap_spares.cheapest.Given as goal
 abbrev pub invariant-loop-l : goal.invariant-loop-l
 invariant-loop-l l = (l.l ≤ l.count) ×
     (l.best ≡ cheapest_of l.initial.best (lines l.tariff l.free) (lines l.earned l.share) l.l)
-
-abbrev pub decreases-loop-l : goal.decreases-loop-l
-decreases-loop-l l = l.count - l.l

@@ -7,11 +7,5 @@ use Rattle.window_lists.proofs.common.common_hours.Given as goal
 abbrev pub invariant-loop-j : goal.invariant-loop-j
 invariant-loop-j l = (l.j ≤ l.columns) × RowPart (common_hours l.list l.growers) l.columns l.i l.j l.initial.square l.square
 
-abbrev pub decreases-loop-j : goal.decreases-loop-j
-decreases-loop-j l = l.columns - l.j
-
 abbrev pub invariant-loop-i : goal.invariant-loop-i
 invariant-loop-i l = (l.i ≤ l.rows) × Part l.initial.square (common_hours l.list l.growers) l.columns l.i 0 l.square
-
-abbrev pub decreases-loop-i : goal.decreases-loop-i
-decreases-loop-i l = l.rows - l.i

@@ -6,6 +6,3 @@ use Rattle.window_lists.proofs.common.week_of.Given as goal
 
 abbrev pub invariant-loop-w : goal.invariant-loop-w
 invariant-loop-w l = (l.w ≤ l.count) × Marks (covered (first_windows l.list l.place l.w)) l.marked
-
-abbrev pub decreases-loop-w : goal.decreases-loop-w
-decreases-loop-w l = l.count - l.w

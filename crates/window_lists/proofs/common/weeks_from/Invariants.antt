@@ -7,6 +7,3 @@ use Rattle.window_lists.proofs.common.weeks_from.Given as goal
 
 abbrev pub invariant-loop-k : goal.invariant-loop-k
 invariant-loop-k l = (l.k ≤ l.count) × (length l.weeks ≡ 16) × WeeksOf l.list l.party l.k l.weeks
-
-abbrev pub decreases-loop-k : goal.decreases-loop-k
-decreases-loop-k l = l.count - l.k

@@ -6,6 +6,3 @@ use Rattle.window_lists.proofs.places.party_place.Given as goal
 
 abbrev pub invariant-loop-k : goal.invariant-loop-k
 invariant-loop-k l = (l.k ≤ l.party) × (l.place ≤ 131071 * l.k) × (l.place ≡ party_place l.list l.k)
-
-abbrev pub decreases-loop-k : goal.decreases-loop-k
-decreases-loop-k l = l.party - l.k

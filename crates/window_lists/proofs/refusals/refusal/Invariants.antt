@@ -7,6 +7,3 @@ use Rattle.window_lists.proofs.refusals.refusal.Given as goal
 
 abbrev pub invariant-loop-k : goal.invariant-loop-k
 invariant-loop-k l = (l.k ≤ l.parties) × (l.place ≤ 131071 * l.k) × (l.place ≡ party_place l.list l.k) × (l.why ≡ parties_refusal l.list l.k)
-
-abbrev pub decreases-loop-k : goal.decreases-loop-k
-decreases-loop-k l = l.parties - l.k

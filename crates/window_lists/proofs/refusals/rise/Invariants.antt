@@ -7,6 +7,3 @@ use Rattle.window_lists.proofs.refusals.rise.Given as goal
 
 abbrev pub invariant-loop-w : goal.invariant-loop-w
 invariant-loop-w l = (l.w ≤ l.count) × (l.ok ≡ every (window_passes l.list l.place) l.w) × (l.closed ≡ closed_before l.list l.place l.w)
-
-abbrev pub decreases-loop-w : goal.decreases-loop-w
-decreases-loop-w l = l.count - l.w

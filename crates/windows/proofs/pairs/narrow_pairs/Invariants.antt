@@ -9,11 +9,5 @@ abbrev pub invariant-loop-j : goal.invariant-loop-j
 invariant-loop-j l = (l.j ≤ l.pilots)
     × ((xs : List ℕ) → PairsIn l.windows xs l.growers l.pilots (l.i * l.pilots) l.initial.ticket → PairsIn l.windows xs l.growers l.pilots (l.i * l.pilots + l.j) l.ticket)
 
-abbrev pub decreases-loop-j : goal.decreases-loop-j
-decreases-loop-j l = l.pilots - l.j
-
 abbrev pub invariant-loop-i : goal.invariant-loop-i
 invariant-loop-i l = (l.i ≤ l.growers) × PairsIn l.windows (ticket_front l.initial.ticket) l.growers l.pilots (l.i * l.pilots) l.ticket
-
-abbrev pub decreases-loop-i : goal.decreases-loop-i
-decreases-loop-i l = l.growers - l.i
