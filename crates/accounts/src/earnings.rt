@@ -6,7 +6,7 @@ ghost use Rattle.tables.specs.View.{growers_of, pilots_of, ticket_of, settlement
 ghost use Rattle.accounts.specs.Earnings.{earned_in, earned_at, Modest};
 
 use grid::turned;
-use numbers::{less, product};
+use numbers::product;
 use tables::{Quantity, square};
 
 // What a party earns over all its hours with so many partners.
@@ -24,7 +24,7 @@ fn earned(
     let mut total: u64 = 0;
     for l in 0..partners {
         let by_tariff = product(tariff_hours[l], tariff[l]);
-        let share = less(whole[l], given[l]);
+        let share = whole[l].saturating_sub(given[l]);
         total += by_tariff + product(free_deal_hours[l], share);
     }
     total

@@ -2,7 +2,6 @@
 ghost use Rattle.std.specs.Prelude.{◌≤◌};
 
 use files::{Stream, fill_in};
-use numbers::widest;
 
 // The growers' lines.
 fn put_growers(page: &mut [u8], stream: Stream, list: [u32; 48], n: usize) -> Stream
@@ -10,7 +9,7 @@ fn put_growers(page: &mut [u8], stream: Stream, list: [u32; 48], n: usize) -> St
 {
     let mut now = stream;
     for i in 0..n {
-        let gain = widest(list[i]);
+        let gain = u64::from(list[i]);
         now = fill_in(page, now, b"grower % gains %\n", &[i as u64, gain]);
     }
     now
@@ -33,8 +32,8 @@ fn put_pilots(page: &mut [u8], stream: Stream, list: [u32; 48], n: usize, m: usi
 {
     let mut now = stream;
     for j in 0..m {
-        let pay = widest(list[n + 2 * j]);
-        let cents = widest(list[n + 2 * j + 1]);
+        let pay = u64::from(list[n + 2 * j]);
+        let cents = u64::from(list[n + 2 * j + 1]);
         now = put_pilot(page, now, j, pay, cents);
     }
     now
@@ -46,7 +45,7 @@ fn gains(list: [u32; 48], n: usize) -> u64
 {
     let mut total: u64 = 0;
     for i in 0..n {
-        total += widest(list[i]);
+        total += u64::from(list[i]);
     }
     total
 }
@@ -65,8 +64,8 @@ fn pays(list: [u32; 48], n: usize, m: usize) -> Paid
     let mut pays: u64 = 0;
     let mut commissions: u64 = 0;
     for j in 0..m {
-        pays += widest(list[n + 2 * j]);
-        commissions += widest(list[n + 2 * j + 1]);
+        pays += u64::from(list[n + 2 * j]);
+        commissions += u64::from(list[n + 2 * j + 1]);
     }
     Paid { pays, commissions }
 }

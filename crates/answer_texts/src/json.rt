@@ -114,8 +114,8 @@ fn put_verdict(page: &mut [u8], stream: Stream, values: Values) -> Stream {
 fn put_fault(page: &mut [u8], stream: Stream, code: u16) -> Stream {
     let fault = words::fault_of(code);
     let verdict = (fault.verdict % 256) as u8;
-    let grower = numbers::index(fault.grower);
-    let pilot = numbers::index(fault.pilot);
+    let grower = usize::from(fault.grower);
+    let pilot = usize::from(fault.pilot);
     let deal = fault.deal;
     let begun = put(page, stream, b"{");
     let named = put_named(page, begun, verdict, grower, pilot, deal);
@@ -217,7 +217,7 @@ fn put_settlement_pair(page: &mut [u8], stream: Stream, list: &[u16], i: u16, j:
 }
 
 fn put_pair(page: &mut [u8], stream: Stream, list: &[u16], i: u16, j: u16) -> Stream {
-    let parted = put_comma(page, stream, numbers::index(i) + numbers::index(j));
+    let parted = put_comma(page, stream, usize::from(i) + usize::from(j));
     if entry(list, 0) == 2 {
         return put_settlement_pair(page, parted, list, i, j);
     }

@@ -3,7 +3,7 @@ use crate::json::number;
 use crate::names::{column, put_left, put_party, put_right};
 use crate::sheet::{flies, grower_share};
 use files::{Stream, put};
-use numbers::{entry, index};
+use numbers::entry;
 use tables::{Quantity, Side};
 
 // How wide the columns of growers and pilots are, with the blanks after them.
@@ -108,8 +108,15 @@ fn put_pair(
     if !flies(agreed, i, j) {
         return stream;
     }
-    let grower = put_party(page, stream, names, index(i), i as u64, columns.growers);
-    let line = plus(tables::growers(terms), index(j));
+    let grower = put_party(
+        page,
+        stream,
+        names,
+        usize::from(i),
+        i as u64,
+        columns.growers,
+    );
+    let line = plus(tables::growers(terms), usize::from(j));
     let pilot = put_party(page, grower, names, line, j as u64, columns.pilots);
     put_figures(page, pilot, terms, agreed, i, j)
 }
@@ -204,7 +211,7 @@ fn nothing() -> Figures {
 // An amount of an account, 0 past its end.
 fn amount(account: [u32; 48], place: usize) -> u64 {
     if place < 48 {
-        numbers::widest(account[place])
+        u64::from(account[place])
     } else {
         0
     }
@@ -214,7 +221,7 @@ fn of_grower(terms: &[u16], agreed: &[u16], account: [u32; 48], i: u16) -> Figur
     Figures {
         flown: grower_flies(agreed, i),
         own: entry(terms, tables::hours_place(terms, Side::Growers, i)) as u64,
-        euros: amount(account, index(i)),
+        euros: amount(account, usize::from(i)),
     }
 }
 
@@ -222,7 +229,7 @@ fn of_pilot(terms: &[u16], agreed: &[u16], account: [u32; 48], j: u16) -> Figure
     Figures {
         flown: pilot_flies(agreed, j),
         own: entry(terms, tables::hours_place(terms, Side::Pilots, j)) as u64,
-        euros: amount(account, plus(tables::growers(terms), 2 * index(j))),
+        euros: amount(account, plus(tables::growers(terms), 2 * usize::from(j))),
     }
 }
 
@@ -244,7 +251,7 @@ fn with_grower(
     let before = told.stream;
     let total = told.total;
     let word = put(page, before, b"grower ");
-    let named = put_party(page, word, names, index(i), i as u64, wide);
+    let named = put_party(page, word, names, usize::from(i), i as u64, wide);
     let stream = put_party_figures(page, named, figures);
     let more = added(total, figures);
     Told {
@@ -265,7 +272,14 @@ fn with_pilot(
     let before = told.stream;
     let total = told.total;
     let word = put(page, before, b"pilot  ");
-    let named = put_party(page, word, names, plus(growers, index(j)), j as u64, wide);
+    let named = put_party(
+        page,
+        word,
+        names,
+        plus(growers, usize::from(j)),
+        j as u64,
+        wide,
+    );
     let stream = put_party_figures(page, named, figures);
     let more = added(total, figures);
     Told {

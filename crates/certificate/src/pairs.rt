@@ -5,7 +5,6 @@ ghost use Rattle.certificate.specs.Certified.{feasible, worthwhile, tariff_kept,
 ghost use Rattle.certificate.specs.Rows.{row_kept, sides_kept};
 
 use crate::{Party, Side};
-use numbers::less;
 
 // The caps and the pay are kept.
 fn feasible(
@@ -37,7 +36,7 @@ fn worthwhile(
     ensures { result ≡ worthwhile grower pilot tariff_gain tariff_pay joint_gain tariff_hours free_deal_hours pay }
 {
     let by_tariff = (grower.standby <= tariff_gain) & (pilot.standby <= tariff_pay);
-    let by_share = (grower.standby <= less(joint_gain, pay)) & (pilot.standby <= pay);
+    let by_share = (grower.standby <= joint_gain.saturating_sub(pay)) & (pilot.standby <= pay);
     ((tariff_hours == 0) | by_tariff) & ((free_deal_hours == 0) | by_share)
 }
 
@@ -55,13 +54,13 @@ fn tariff_kept(grower: Party, pilot: Party, cap: u16, gain: u16, pay: u16, hours
 fn at_least_both(gain: u16, one: u16, other: u16) -> bool
     ensures { result ≡ leb (one + other) gain }
 {
-    (one <= gain) & (other <= less(gain, one))
+    (one <= gain) & (other <= gain.saturating_sub(one))
 }
 
 fn at_most_both(gain: u16, one: u16, other: u16) -> bool
     ensures { result ≡ leb gain (one + other) }
 {
-    less(gain, one) <= other
+    gain.saturating_sub(one) <= other
 }
 
 // The free deal is at its cap; or it is not idle, and brings both together no more than their least hours.

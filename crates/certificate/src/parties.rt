@@ -5,7 +5,7 @@ ghost use Rattle.certificate.specs.Rows.{used_in, least_in, IsSide};
 
 use crate::Side;
 use grid::zero_row;
-use numbers::{left, lesser, wide};
+use numbers::left;
 
 // What an hour is worth where there is none: above every amount.
 const NO_HOUR: u16 = 65535;
@@ -31,7 +31,7 @@ fn used(tariff: [u16; 16], free: [u16; 16], partners: usize) -> u32
 {
     let mut total: u32 = 0;
     for l in 0..partners {
-        total += wide(tariff[l]) + wide(free[l]);
+        total += u32::from(tariff[l]) + u32::from(free[l]);
     }
     total
 }
@@ -51,7 +51,7 @@ fn least_earned(
     for l in 0..partners {
         let by_tariff = worth_of(tariff[l], earned[l]);
         let in_free_deal = worth_of(free[l], share[l]);
-        least = lesser(least, lesser(by_tariff, in_free_deal));
+        least = least.min(by_tariff.min(in_free_deal));
     }
     least
 }
@@ -78,7 +78,7 @@ pub(crate) fn side(
         let total = used(tariff[p], free[p], partners);
         let hours = left(own[p], total);
         let lowest = least_earned(tariff[p], earned[p], free[p], share[p], partners);
-        fits = fits & (total <= wide(own[p]));
+        fits = fits & (total <= u32::from(own[p]));
         unused[p] = hours;
         least[p] = least_of(hours, standby[p], lowest);
     }

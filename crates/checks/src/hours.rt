@@ -2,8 +2,6 @@
 ghost use Rattle.std.specs.Prelude.{◌≡◌, suc, ◌-◌, ◌/◌, ◌%◌};
 ghost use Rattle.checks.specs.Hours.{noted, has_none, none_of};
 
-use numbers::index;
-
 // How many parties are noted: no ticket has more.
 const DIGITS: usize = 32;
 
@@ -50,8 +48,8 @@ fn after(count: usize, i: usize) -> usize
 pub fn pair_has_none(without: u32, growers: u16, pilots: u16, pair: usize) -> bool
     ensures { result ≡ none_of without growers pilots pair }
 {
-    let m = index(pilots);
-    let parties = index(growers) + m;
+    let m = usize::from(pilots);
+    let parties = usize::from(growers) + m;
     let grower = quotient(pair, m);
     let pilot = rest(pair, m);
     has_none(without, after(parties, grower)) || has_none(without, after(m, pilot))

@@ -57,8 +57,8 @@ fn draw_ticket(rt: &HostRuntime, asked: Asked, seed: u16, growers: u16, pilots: 
     let mut list = numbers::ticket_list();
     let reply = draws::draw(
         seed as u64,
-        numbers::index(growers),
-        numbers::index(pilots),
+        usize::from(growers),
+        usize::from(pilots),
         &mut list,
     );
     match reply {

@@ -91,7 +91,7 @@ pub(crate) fn line_of(text: &[u8], number: usize) -> usize {
 
 // Which number of a text with words is that at a place of a ticket: a party has one number more there, and a pair two.
 fn in_ticket(growers: u16, pilots: u16, place: usize) -> usize {
-    let parties = numbers::index(growers) + numbers::index(pilots);
+    let parties = usize::from(growers) + usize::from(pilots);
     let pairs = 3 + parties;
     if place < 3 {
         return place;

@@ -64,8 +64,8 @@ fn put_fault(page: &mut [u8], stream: Stream, code: u16) -> Stream {
         page,
         dealt,
         verdict,
-        numbers::index(grower),
-        numbers::index(pilot),
+        usize::from(grower),
+        usize::from(pilot),
         deal,
     );
     put(page, told, b"\n")

@@ -5,7 +5,7 @@ use checks::Document;
 use commands::{Asked, FAILED, operand, written};
 use files::{Got, Standard, Stream, complain_of, fill_in};
 use layouts::{Layout, TextRead};
-use numbers::{entry, index};
+use numbers::entry;
 use reader::Reply;
 
 // As many numbers as a text of 65,535 bytes can list, so that a list that is too long is refused as one that has numbers left.
@@ -137,7 +137,10 @@ pub(crate) fn refuse_line(
 fn document_in(layout: Layout, list: &[u16]) -> Document {
     match layout {
         Layout::Ticket => Document::Ticket,
-        Layout::Settlement => settlement_of(index(entry(list, 1)), index(entry(list, 2))),
+        Layout::Settlement => settlement_of(
+            usize::from(entry(list, 1)),
+            usize::from(entry(list, 2)),
+        ),
     }
 }
 

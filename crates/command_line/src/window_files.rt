@@ -7,7 +7,7 @@ use checks::Document;
 use commands::{Asked, FAILED, operand};
 use files::{Got, Stream, fill_in};
 use lists::Listed;
-use numbers::{entry, index};
+use numbers::entry;
 use reader::Reply;
 
 // A party has at most so many windows.
@@ -89,7 +89,7 @@ fn ends_early(list: &[u16], place: usize, count: u16) -> bool {
     if 65536 < place {
         return true;
     }
-    list.len() < place + 1 + 2 * index(count)
+    list.len() < place + 1 + 2 * usize::from(count)
 }
 
 // The party whose count stands at the spot.

@@ -5,13 +5,11 @@
 ghost use Rattle.std.specs.Prelude.{◌≡◌, ◌-◌, ◌*◌, ◌≤◌};
 ghost use Rattle.commission.specs.Bands.{charged_between, charged, rounded_cents, exchange_bands, commission};
 
-use numbers::{least, less_wide, most, widest};
-
 // The charge on the cents from `low` up to `high`.
 fn between(low: u32, high: u32, rate: u32) -> u64
     ensures { (result ≡ charged_between low high rate) × (result ≤ 1000 * (high - low)) }
 {
-    widest(less_wide(high, low)) * widest(least(1000, rate))
+    u64::from(high.saturating_sub(low)) * u64::from(rate.min(1000))
 }
 
 // What bands charge on `x` cents, at most 1,000 per mille.
@@ -27,8 +25,8 @@ pub fn charge(bands: &[u32], x: u32) -> u64
         if at + 2 == bands.len() {
             return total + between(low, x, rate);
         }
-        let high = most(low, bound);
-        total = total + between(low, least(x, high), rate);
+        let high = low.max(bound);
+        total = total + between(low, x.min(high), rate);
         low = high;
     }
     total

@@ -6,12 +6,6 @@ ghost use Rattle.std.specs.Prelude.{true, ◌≡◌, ◌<◌, ◌≤◌, length}
 ghost use Rattle.std.proofs.lemmas.List.Edits.{sets};
 ghost use Rattle.decoding.specs.Numbered.{follows, ended, joined, numbered_after, numbers_after, decoded_as};
 
-fn wide(b: u8) -> usize
-    ensures { (result ≡ b) × (result < 256) }
-{
-    b as usize
-}
-
 // Whether a byte may follow another.
 fn follows(prior: u8, b: u8) -> bool
     ensures { result ≡ follows prior b }
@@ -62,7 +56,7 @@ fn decode_numbers(s: &[u8], list: &mut [u16]) -> usize
     let mut count: usize = 0;
     let mut prior: usize = 0;
     for i in 0..s.len() {
-        let b = wide(s[i]);
+        let b = usize::from(s[i]);
         list[count] = joined(prior, b);
         count = count + ended(b);
         prior = b;

@@ -8,7 +8,6 @@ ghost use Rattle.draws.specs.Drawn.{drawn_hours, drawn_pair, drawn_pairs};
 use crate::generator::next;
 use crate::values::{cap, hours, joint_amount, tariff_amount};
 use checks::{noted, pair_has_none};
-use numbers::index;
 
 // Everybody's hours: the generator's number after them, and who has none.
 #[derive(Clone, Copy)]
@@ -27,7 +26,7 @@ pub(crate) fn fill_hours(list: &mut [u16], from: usize, count: usize, x: u32) ->
     for k in 0..count {
         let drawn = hours(here);
         list[from + k] = drawn;
-        without = noted(without, index(drawn));
+        without = noted(without, usize::from(drawn));
         here = next(here);
     }
     Filled {

@@ -5,13 +5,11 @@
 ghost use Rattle.std.specs.Prelude.{◌≡◌, ◌≤◌, min};
 ghost use Rattle.euros.specs.Euros.{euros_of, clash_of, shift_of};
 
-use numbers::widest;
-
 // A price moved up by `shift`, in whole euros.
 pub fn whole_euros(price: u32, shift: u32) -> u32
     ensures { result ≡ euros_of price shift }
 {
-    ((widest(price) + widest(shift)) / 18) as u32
+    ((u64::from(price) + u64::from(shift)) / 18) as u32
 }
 
 // The first pilot whose price, moved up by `shift`, is a whole number of euros; `pilots` if there is none.
@@ -20,7 +18,7 @@ fn clash(pilots: usize, price: [u32; 16], shift: u32) -> usize
     ensures { result ≡ clash_of price pilots shift }
 {
     for j in 0..pilots {
-        if (widest(price[j]) + widest(shift)) % 18 == 0 {
+        if (u64::from(price[j]) + u64::from(shift)) % 18 == 0 {
             return j;
         }
     }

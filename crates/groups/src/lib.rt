@@ -19,13 +19,6 @@ pub enum Got {
     Padded,
 }
 
-// A byte as a number; called, so that a caller need not show that it fits.
-fn wide(b: u8) -> usize
-    ensures { (result ≡ b) × (result < 256) }
-{
-    b as usize
-}
-
 // The number that starts at a place, group by group. Each group weighs 128 times the last; a last group after the first is not 0.
 pub fn number(s: &[u8], at: usize) -> Got
     ensures { result ≡ placed (length s.now) (bytes (drop at s.now)) }
@@ -42,7 +35,7 @@ pub fn number(s: &[u8], at: usize) -> Got
         if s.len() <= here {
             return Got::Ends;
         }
-        let b = wide(s[here]);
+        let b = usize::from(s[here]);
         if b < 128 {
             if b < least {
                 return Got::Padded;

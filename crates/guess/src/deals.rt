@@ -6,7 +6,6 @@ use crate::state::{
     PRICE, SHARED, State, TARIFF_CAP, TARIFF_GAIN, TARIFF_HOURS, TARIFF_OPEN, TARIFF_PAY, WORST,
     get, least_of, of, places_of, put, set,
 };
-use numbers::{less, lesser};
 
 pub(crate) fn more_free_deal(s: &mut State, i: usize, j: usize, x: u16) {
     let hours = plus(get(s, FREE_DEAL_HOURS, i, j), x);
@@ -25,11 +24,11 @@ fn offered(s: &mut State, i: usize, offer: u16) {
 }
 
 pub(crate) fn less_free_deal(s: &mut State, i: usize, j: usize, x: u16) {
-    let hours = less(get(s, FREE_DEAL_HOURS, i, j), x);
+    let hours = get(s, FREE_DEAL_HOURS, i, j).saturating_sub(x);
     put(&mut *s, FREE_DEAL_HOURS, i, j, hours);
     let gain = get(s, JOINT_GAIN, i, j);
     put(&mut *s, FREE_OPEN, i, j, gain);
-    let offer = less(gain, of(s, PRICE, j));
+    let offer = gain.saturating_sub(of(s, PRICE, j));
     offered(&mut *s, i, offer);
     if hours == 0 {
         put(&mut *s, SHARED, j, i, ALL);
@@ -41,7 +40,7 @@ pub(crate) fn more_tariff(s: &mut State, i: usize, j: usize, x: u16) {
     put(&mut *s, TARIFF_HOURS, i, j, hours);
     let pay = get(s, TARIFF_PAY, i, j);
     put(&mut *s, PAID, j, i, pay);
-    let worst = lesser(of(s, WORST, j), pay);
+    let worst = of(s, WORST, j).min(pay);
     set(&mut *s, WORST, j, worst);
     if hours == get(s, TARIFF_CAP, i, j) {
         put(&mut *s, TARIFF_OPEN, i, j, 0);
@@ -49,7 +48,7 @@ pub(crate) fn more_tariff(s: &mut State, i: usize, j: usize, x: u16) {
 }
 
 pub(crate) fn less_tariff(s: &mut State, i: usize, j: usize, x: u16) {
-    let hours = less(get(s, TARIFF_HOURS, i, j), x);
+    let hours = get(s, TARIFF_HOURS, i, j).saturating_sub(x);
     put(&mut *s, TARIFF_HOURS, i, j, hours);
     let gain = get(s, TARIFF_GAIN, i, j);
     put(&mut *s, TARIFF_OPEN, i, j, gain);
@@ -71,9 +70,9 @@ pub(crate) fn more(s: &mut State, tariff: bool, i: usize, j: usize, x: u16) {
 
 pub(crate) fn room(s: &State, tariff: bool, i: usize, j: usize) -> u16 {
     if tariff {
-        less(get(s, TARIFF_CAP, i, j), get(s, TARIFF_HOURS, i, j))
+        get(s, TARIFF_CAP, i, j).saturating_sub(get(s, TARIFF_HOURS, i, j))
     } else {
-        less(get(s, FREE_CAP, i, j), get(s, FREE_DEAL_HOURS, i, j))
+        get(s, FREE_CAP, i, j).saturating_sub(get(s, FREE_DEAL_HOURS, i, j))
     }
 }
 
@@ -81,7 +80,7 @@ pub(crate) fn room(s: &State, tariff: bool, i: usize, j: usize) -> u16 {
 pub(crate) fn settle_price(s: &mut State, j: usize) {
     if of(s, PILOT_FREE, j) == 0 {
         if least_of(s, SHARED, j) == ALL {
-            let price = greater(of(s, PRICE, j), lesser(of(s, WORST, j), ABOVE_PRICES));
+            let price = greater(of(s, PRICE, j), of(s, WORST, j).min(ABOVE_PRICES));
             set(&mut *s, PRICE, j, price);
         }
         let asked = plus(of(s, PRICE, j), 1);

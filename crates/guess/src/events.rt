@@ -5,7 +5,6 @@ use crate::state::{
     ASKED, FREE_OPEN, JOINS, LOOKS, MOST, PRICE, REACHED, ROWS, SHARED, State, UNSEEN, WAYS, WITH,
     WORST, WORTHS, all_ones, of, set,
 };
-use numbers::less;
 
 // A search: who asks, what his best offer was, how far prices have risen, when a tariff hour of a pilot reached becomes late and whose,
 // and when the one who asks is to be looked at.
@@ -99,7 +98,7 @@ fn late_time(s: &State, progress: Progress, j: usize) -> u16 {
     if worst == ALL {
         ALL
     } else {
-        plus(less(worst, of(s, PRICE, j)), progress.now)
+        plus(worst.saturating_sub(of(s, PRICE, j)), progress.now)
     }
 }
 

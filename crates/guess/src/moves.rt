@@ -8,7 +8,6 @@ use crate::state::{
     TARIFF_HOURS, get, of, set,
 };
 use crate::ways::{Way, move_along, move_round, on_the_way, room_along, room_round};
-use numbers::{less, lesser};
 
 // What the last pilot of a way does for the hours that come.
 #[derive(Clone, Copy)]
@@ -34,7 +33,7 @@ fn hours_of(s: &State, j: usize, room: Room) -> u16 {
 }
 
 fn lose(s: &mut State, row: usize, k: usize, x: u16) {
-    let hours = less(of(s, row, k), x);
+    let hours = of(s, row, k).saturating_sub(x);
     set(&mut *s, row, k, hours);
 }
 
@@ -62,8 +61,8 @@ fn make_room(s: &mut State, j: usize, room: Room, x: u16) -> Displaced {
 }
 
 fn most_hours(s: &State, root: usize, last: Way, j: usize, given: Room) -> u16 {
-    let asked = lesser(of(s, GROWER_FREE, root), hours_of(s, j, given));
-    let fit = lesser(asked, room(s, last.tariff, last.grower, j));
+    let asked = of(s, GROWER_FREE, root).min(hours_of(s, j, given));
+    let fit = asked.min(room(s, last.tariff, last.grower, j));
     room_along(s, last, fit)
 }
 
@@ -93,7 +92,8 @@ fn loss(s: &State, k: usize, j: usize) -> u16 {
     if gain == ALL {
         ALL
     } else {
-        less(less(gain, of(s, PRICE, j)), of(s, MOST, k))
+        gain.saturating_sub(of(s, PRICE, j))
+            .saturating_sub(of(s, MOST, k))
     }
 }
 
@@ -117,7 +117,7 @@ fn has_worse(s: &State, grower: usize, j: usize) -> bool {
     if own == ALL {
         false
     } else {
-        less(own, of(s, PRICE, j)) <= get(s, TARIFF_GAIN, grower, j)
+        own.saturating_sub(of(s, PRICE, j)) <= get(s, TARIFF_GAIN, grower, j)
     }
 }
 

@@ -7,7 +7,6 @@ use crate::sets::{NOBODY, bit, first, first_places, with, without, without_first
 use crate::state::{GROWER_FREE, PILOT_FREE, SOURCE, State, of, places_in, set};
 use crate::tariffs::best_offers;
 use crate::ways::Way;
-use numbers::{less, lesser};
 
 // How many requests a guess may take. Far more than was ever seen.
 const MOST_REQUESTS: usize = 20000;
@@ -24,9 +23,9 @@ fn add(s: &mut State, i: usize, j: usize, top: u16) {
     let tariff = takes_tariff(s, i, j, top);
     let pilot_free = of(s, PILOT_FREE, j);
     let grower_free = of(s, GROWER_FREE, i);
-    let x = lesser(lesser(pilot_free, grower_free), room(s, tariff, i, j));
-    set(&mut *s, PILOT_FREE, j, less(pilot_free, x));
-    set(&mut *s, GROWER_FREE, i, less(grower_free, x));
+    let x = pilot_free.min(grower_free).min(room(s, tariff, i, j));
+    set(&mut *s, PILOT_FREE, j, pilot_free.saturating_sub(x));
+    set(&mut *s, GROWER_FREE, i, grower_free.saturating_sub(x));
     more(&mut *s, tariff, i, j, x);
     settle_price(&mut *s, j);
 }

@@ -1,6 +1,5 @@
 // Rows: each loop does the same at all sixteen places, so that it becomes vector code.
 use crate::saturating::{ALL, greater, plus};
-use numbers::{less, lesser};
 
 fn eight() -> [u16; 8] {
     [0; 8]
@@ -9,20 +8,20 @@ fn eight() -> [u16; 8] {
 // Sixteen numbers are folded in halves: a fold of one after another is no vector code.
 fn least_halves(row: &[u16; 16], half: &mut [u16; 8]) {
     for j in 0..8usize {
-        half[j] = lesser(row[j], row[j + 8]);
+        half[j] = row[j].min(row[j + 8]);
     }
 }
 
 fn least_quarter(half: &[u16; 8], j: usize) -> u16 {
-    lesser(half[j % 4], half[j % 4 + 4])
+    half[j % 4].min(half[j % 4 + 4])
 }
 
 pub(crate) fn least(row: &[u16; 16]) -> u16 {
     let mut half = eight();
     least_halves(row, &mut half);
-    let even = lesser(least_quarter(&half, 0), least_quarter(&half, 2));
-    let odd = lesser(least_quarter(&half, 1), least_quarter(&half, 3));
-    lesser(even, odd)
+    let even = least_quarter(&half, 0).min(least_quarter(&half, 2));
+    let odd = least_quarter(&half, 1).min(least_quarter(&half, 3));
+    even.min(odd)
 }
 
 fn greatest_halves(row: &[u16; 16], half: &mut [u16; 8]) {
@@ -63,7 +62,7 @@ pub(crate) fn places(row: &[u16; 16], value: u16, bits: &[u16; 16]) -> u32 {
     place_halves(row, value, bits, &mut half);
     let even = place_quarter(&half, 0) | place_quarter(&half, 2);
     let odd = place_quarter(&half, 1) | place_quarter(&half, 3);
-    numbers::wide(even | odd)
+    u32::from(even | odd)
 }
 
 // One more than each.
@@ -123,7 +122,7 @@ pub(crate) fn better_offers(
     to: &mut [u16; 16],
 ) {
     for j in 0..16usize {
-        to[j] = greater(by_tariff[j], less(free[j], price[j]));
+        to[j] = greater(by_tariff[j], free[j].saturating_sub(price[j]));
     }
 }
 
@@ -144,7 +143,7 @@ pub(crate) fn times(
     to: &mut [u16; 16],
 ) {
     for j in 0..16usize {
-        to[j] = plus(less(worth, less(free[j], price[j])), now) | reached[j];
+        to[j] = plus(worth.saturating_sub(free[j].saturating_sub(price[j])), now) | reached[j];
     }
 }
 
@@ -156,13 +155,13 @@ fn unless_less(by: u16, kept: u16, other: u16) -> u16 {
 // By how much each of the other numbers is less.
 pub(crate) fn differences(row: &[u16; 16], other: &[u16; 16], to: &mut [u16; 16]) {
     for j in 0..16usize {
-        to[j] = less(row[j], other[j]);
+        to[j] = row[j].saturating_sub(other[j]);
     }
 }
 
 pub(crate) fn lower(row: &mut [u16; 16], by: &[u16; 16]) {
     for j in 0..16usize {
-        row[j] = less(row[j], by[j]);
+        row[j] = row[j].saturating_sub(by[j]);
     }
 }
 
@@ -175,7 +174,7 @@ pub(crate) fn note(row: &mut [u16; 16], by: &[u16; 16], value: u16) {
 
 // After what time a tariff deal ties: what a pilot reached asks for rises meanwhile.
 fn wait(offer: u16, pay: u16, asked: u16, worth: u16, reached: u16) -> u16 {
-    let wait = less(worth, offer);
+    let wait = worth.saturating_sub(offer);
     if plus(asked, wait & reached) <= pay {
         wait
     } else {
@@ -198,7 +197,11 @@ pub(crate) fn tariff_waits(
 
 // What an hour is worth when so much is taken from it; all ones stay.
 fn worth(gain: u16, by: u16) -> u16 {
-    if gain == ALL { ALL } else { less(gain, by) }
+    if gain == ALL {
+        ALL
+    } else {
+        gain.saturating_sub(by)
+    }
 }
 
 pub(crate) fn worths(gain: &[u16; 16], by: u16, to: &mut [u16; 16]) {
@@ -216,7 +219,7 @@ pub(crate) fn look_times(
     now: u16,
 ) {
     for k in 0..16usize {
-        looks[k] = unless_less(by[k], looks[k], plus(less(worth[k], most[k]), now));
+        looks[k] = unless_less(by[k], looks[k], plus(worth[k].saturating_sub(most[k]), now));
     }
 }
 

@@ -11,7 +11,6 @@ use crate::state::{
 };
 use crate::tariffs::{best_outside, tariff_time};
 use crate::ways::{Way, mark, way_to};
-use numbers::{less, lesser};
 
 // How many events a search may take. Far more than was ever seen.
 const MOST_EVENTS: usize = 2000;
@@ -83,7 +82,7 @@ fn tariff_tie(s: &State, grower: usize, worth: u16) -> usize {
 
 // The one who asks is looked at: does a tariff tie?
 fn look_at_root(s: &mut State, progress: Progress) -> Step {
-    let worth = less(progress.top, progress.now);
+    let worth = progress.top.saturating_sub(progress.now);
     let j = tariff_tie(s, progress.root, worth);
     if j < NOBODY {
         return by_tariff(&mut *s, progress, progress.root, SOURCE, j);
@@ -165,7 +164,7 @@ fn go_on(s: &mut State, progress: Progress, new: u32, look: u16) -> Step {
     if look == progress.now {
         return look_at_growers(&mut *s, progress);
     }
-    if progress.now == less(progress.top, 1) {
+    if progress.now == progress.top.saturating_sub(1) {
         return Step::Stop {
             displaced: Displaced::Nobody,
         };
@@ -193,17 +192,17 @@ struct Times {
 
 fn times_of(s: &State, now: u16) -> Times {
     let join = least_of(s, ROWS, JOINS);
-    let end = plus(less(least_of(s, ROWS, WORTHS), 1), now);
+    let end = plus(least_of(s, ROWS, WORTHS).saturating_sub(1), now);
     let look = least_of(s, ROWS, LOOKS);
     Times { join, end, look }
 }
 
 fn soonest(progress: Progress, times: Times) -> u16 {
-    let soon = lesser(
-        lesser(times.join, times.end),
-        lesser(times.look, progress.root_looks),
-    );
-    lesser(soon, lesser(progress.late, less(progress.top, 1)))
+    let soon = times
+        .join
+        .min(times.end)
+        .min(times.look.min(progress.root_looks));
+    soon.min(progress.late.min(progress.top.saturating_sub(1)))
 }
 
 fn happen(s: &mut State, progress: Progress, new: u32, times: Times) -> Step {

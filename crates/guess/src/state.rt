@@ -110,7 +110,7 @@ pub(crate) fn set(s: &mut State, row: usize, j: usize, v: u16) {
 }
 
 pub(crate) fn place_of(s: &State, row: usize, j: usize) -> usize {
-    numbers::index(of(s, row, j)) % 16
+    usize::from(of(s, row, j)) % 16
 }
 
 pub(crate) fn least_of(s: &State, square: usize, i: usize) -> u16 {

@@ -2,8 +2,6 @@
 ghost use Rattle.std.specs.Prelude.{◌≡◌, ◌+◌, ◌/◌, ◌%◌, ◌<◌};
 ghost use Rattle.labels.specs.Spots.{hours_of, columns, party_spot, pair_spot, spot_of};
 
-use numbers::index;
-
 // Which document a text is of.
 #[derive(Clone, Copy)]
 pub enum Layout {
@@ -105,8 +103,8 @@ pub(crate) fn spot_of(layout: Layout, growers: u16, pilots: u16, place: usize) -
             column: place,
         };
     }
-    let n = index(growers);
-    let m = index(pilots);
+    let n = usize::from(growers);
+    let m = usize::from(pilots);
     let hours = hours_of(layout, n, m);
     let after = place - HEAD;
     if after < hours {

@@ -87,7 +87,7 @@ fn after_digits(value: u16, seen: bool, b: u8) -> Step
     ensures { result ≡ step_of value seen b }
 {
     if is_digit(b) {
-        return grown(10 * numbers::index(value) + (b - 48) as usize);
+        return grown(10 * usize::from(value) + (b - 48) as usize);
     }
     if is_blank_after(seen, b) {
         return Step::Ends;

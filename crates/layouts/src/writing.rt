@@ -7,7 +7,7 @@ ghost use Rattle.labels.specs.Words.{begins};
 ghost use Rattle.layouts.specs.Text.{longest, separator, entry_of, text_of, document_text, page_bytes, entry_bytes};
 
 use labels::{Layout, begins_line};
-use numbers::{entry, front, index};
+use numbers::{entry, front};
 use pages::{put, put_number};
 use reader::{NO_ROOM, Reply};
 
@@ -56,7 +56,7 @@ fn put_entry(
     let mut words = [0u8; 64];
     let count = labels::label(layout, growers, pilots, place, &mut words);
     let next = put(page, at, ascii::front(&words, count));
-    let last = put_number(page, next, index(x));
+    let last = put_number(page, next, usize::from(x));
     put_separator(page, last, ends)
 }
 

@@ -83,7 +83,7 @@ fn kind_of(b: u8) -> Kind
 fn grown(value: u16, digit: u16) -> Next
     ensures { result ≡ grown value digit }
 {
-    let more = 10 * numbers::index(value) + numbers::index(digit);
+    let more = 10 * usize::from(value) + usize::from(digit);
     if more < 65536 {
         return Next::On {
             mode: Mode::Number { value: more as u16 },

@@ -7,7 +7,7 @@ ghost use Rattle.marker.specs.Tables.{used_in, party_of, party_at, nobody, is_ov
 
 use crate::Party;
 use grid::{differences, turned};
-use numbers::{left, wide};
+use numbers::left;
 
 // A party's hours over all deals.
 fn used(tariff: [u16; 16], free: [u16; 16], partners: usize) -> u32
@@ -16,7 +16,7 @@ fn used(tariff: [u16; 16], free: [u16; 16], partners: usize) -> u32
 {
     let mut total: u32 = 0;
     for l in 0..partners {
-        total += wide(tariff[l]) + wide(free[l]);
+        total += u32::from(tariff[l]) + u32::from(free[l]);
     }
     total
 }
@@ -142,7 +142,7 @@ pub(crate) fn first_over(parties: [Party; 16], count: usize) -> usize
 {
     for p in 0..count {
         let party = parties[p];
-        if wide(party.own) < party.used {
+        if u32::from(party.own) < party.used {
             return p;
         }
     }

@@ -6,7 +6,6 @@ ghost use Rattle.method.specs.View.{line, alone, held_by};
 ghost use Rattle.method.specs.Choice.{chance, Greatest};
 
 use crate::Best;
-use numbers::wide;
 use offers::{Agreed, Terms, better_deal, greater_chance};
 
 // The deal that offers a grower most.
@@ -40,7 +39,7 @@ pub(crate) fn best_deal(
 pub(crate) fn pair_hours(agreed: Agreed) -> u32
     ensures { (result ≡ agreed.by_tariff + (agreed.old_free + agreed.new_free)) × (result < 196608) }
 {
-    wide(agreed.by_tariff) + (wide(agreed.old_free) + wide(agreed.new_free))
+    u32::from(agreed.by_tariff) + (u32::from(agreed.old_free) + u32::from(agreed.new_free))
 }
 
 // The hours that a grower holds with the first pilots.

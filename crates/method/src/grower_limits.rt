@@ -4,7 +4,6 @@ ghost use Rattle.method.specs.View.{line, alone, held_by};
 ghost use Rattle.method.specs.Jumps.{among, GrowersBear};
 
 use crate::arith::least;
-use numbers::{less_wide, most};
 use offers::{Agreed, MANY, Terms, outside, tariff_slack, worth_here};
 
 // The least that a free-deal hour of a grower with a marked pilot is worth to him.
@@ -47,7 +46,7 @@ pub(crate) fn row_slack(
         let marked = marks[j];
         paid = tariff_slack(paid, marked, terms[j], agreed[j], price[j]);
         low = least(low, worth_here(marked, terms[j], agreed[j], price[j]));
-        top = most(top, outside(marked, terms[j], agreed[j], price[j]));
+        top = top.max(outside(marked, terms[j], agreed[j], price[j]));
     }
-    least(paid, less_wide(low, top))
+    least(paid, low.saturating_sub(top))
 }

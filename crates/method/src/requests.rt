@@ -7,7 +7,6 @@ use crate::arith::{least, narrow};
 use crate::choice::{best_deal, used_by_grower};
 use crate::{Best, Request};
 use market::Deal;
-use numbers::wide;
 use offers::{Agreed, Terms};
 
 // How many hours a deal of a grower and a pilot has room for.
@@ -16,8 +15,9 @@ fn room(terms: Terms, agreed: Agreed, deal: Deal) -> u32
     ensures { (0 < result) × (hours_in agreed deal + result ≡ cap_of terms deal) }
 {
     match deal {
-        Deal::Tariff => wide(terms.tariff_cap) - wide(agreed.by_tariff),
-        Deal::Free => wide(terms.free_cap) - (wide(agreed.old_free) + wide(agreed.new_free)),
+        Deal::Tariff => u32::from(terms.tariff_cap) - u32::from(agreed.by_tariff),
+        Deal::Free => u32::from(terms.free_cap)
+            - (u32::from(agreed.old_free) + u32::from(agreed.new_free)),
     }
 }
 
@@ -33,7 +33,7 @@ pub(crate) fn request(
     ensures { Asks (alone pilots hours terms) (line price.now) (held_by agreed) 0 result }
 {
     let used = used_by_grower(agreed, pilots);
-    let own = wide(hours);
+    let own = u32::from(hours);
     if own <= used {
         return Request::Content;
     }

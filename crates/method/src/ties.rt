@@ -2,7 +2,6 @@
 ghost use Rattle.std.specs.Prelude.{◌<◌, ◌≤◌};
 
 use crate::grower_limits::least_worth;
-use numbers::less_wide;
 use offers::{Agreed, Terms, free_chance};
 
 // How many eighteenths less than that a free deal may offer and still tie. Three make the fewest jumps of the slowest tickets found.
@@ -19,7 +18,7 @@ pub(crate) fn tie_in(
 ) -> [bool; 16]
     requires { pilots ≤ 16 }
 {
-    let low = less_wide(least_worth(terms, agreed, price, pilots, marks), CLOSE);
+    let low = least_worth(terms, agreed, price, pilots, marks).saturating_sub(CLOSE);
     let mut tied = marks;
     for j in 0..pilots {
         if low <= free_chance(terms[j], agreed[j], price[j]) {

@@ -6,13 +6,12 @@ ghost use Rattle.offers.specs.Chances.{tariff_chance, free_chance, greater_chanc
 
 use crate::{Agreed, Terms};
 use market::Deal;
-use numbers::{less_wide, most, wide};
 
 fn tariff_offer(price: u32, gain: u16, pay: u16) -> u32
     ensures { result ≡ pick (leb price (18 * pay)) (suc (18 * gain)) 0 }
 {
-    if price <= 18 * wide(pay) {
-        18 * wide(gain) + 1
+    if price <= 18 * u32::from(pay) {
+        18 * u32::from(gain) + 1
     } else {
         0
     }
@@ -21,7 +20,7 @@ fn tariff_offer(price: u32, gain: u16, pay: u16) -> u32
 fn free_offer(price: u32, gain: u16) -> u32
     ensures { result ≡ suc (18 * gain) - price }
 {
-    less_wide(18 * wide(gain) + 1, price)
+    (18 * u32::from(gain) + 1).saturating_sub(price)
 }
 
 // The chances of a grower with one pilot.
@@ -38,7 +37,7 @@ pub(crate) fn tariff_chance(terms: Terms, agreed: Agreed, price: u32) -> u32
 pub fn free_chance(terms: Terms, agreed: Agreed, price: u32) -> u32
     ensures { result ≡ free_chance terms agreed price }
 {
-    if wide(agreed.old_free) + wide(agreed.new_free) < wide(terms.free_cap) {
+    if u32::from(agreed.old_free) + u32::from(agreed.new_free) < u32::from(terms.free_cap) {
         free_offer(price, terms.joint_gain)
     } else {
         0
@@ -51,7 +50,7 @@ pub fn greater_chance(terms: Terms, agreed: Agreed, price: u32) -> u32
 {
     let tariff = tariff_chance(terms, agreed, price);
     let free = free_chance(terms, agreed, price);
-    most(tariff, free)
+    tariff.max(free)
 }
 
 // The deal of the greater chance; the tariff deal, if they are equal.

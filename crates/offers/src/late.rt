@@ -4,7 +4,6 @@ ghost use Rattle.offers.specs.Late.{late_hours};
 
 use crate::{Agreed, LateHours, Terms};
 use market::Deal;
-use numbers::wide;
 
 // Late hours of a pilot with one grower.
 pub fn late_here(price: u32, terms: Terms, agreed: Agreed) -> LateHours
@@ -14,7 +13,7 @@ pub fn late_here(price: u32, terms: Terms, agreed: Agreed) -> LateHours
         return LateHours::Hours(Deal::Free, agreed.old_free);
     }
     if 0 < agreed.by_tariff {
-        if 18 * wide(terms.tariff_pay) < price {
+        if 18 * u32::from(terms.tariff_pay) < price {
             return LateHours::Hours(Deal::Tariff, agreed.by_tariff);
         }
     }

@@ -5,7 +5,6 @@ ghost use Rattle.offers.specs.Limits.{worth_here, tariff_slack, outside_of, pilo
 
 use crate::chances::{greater_chance, tariff_chance};
 use crate::{Agreed, MANY, TOP, Terms};
-use numbers::{least, less_wide, wide};
 
 // The least that a free-deal hour with one pilot is worth to its grower, if the pilot is marked and there is one.
 pub fn worth_here(marked: bool, terms: Terms, agreed: Agreed, price: u32) -> u32
@@ -15,10 +14,10 @@ pub fn worth_here(marked: bool, terms: Terms, agreed: Agreed, price: u32) -> u32
         return MANY;
     }
     if 0 < agreed.new_free {
-        return less_wide(18 * wide(terms.joint_gain) + 1, price);
+        return (18 * u32::from(terms.joint_gain) + 1).saturating_sub(price);
     }
     if 0 < agreed.old_free {
-        return less_wide(18 * wide(terms.joint_gain) + 2, price);
+        return (18 * u32::from(terms.joint_gain) + 2).saturating_sub(price);
     }
     MANY
 }
@@ -29,7 +28,7 @@ pub fn tariff_slack(by: u32, marked: bool, terms: Terms, agreed: Agreed, price: 
 {
     if marked {
         if 0 < agreed.by_tariff {
-            return least(by, less_wide(18 * wide(terms.tariff_pay) + 1, price));
+            return by.min((18 * u32::from(terms.tariff_pay) + 1).saturating_sub(price));
         }
     }
     by
@@ -56,5 +55,5 @@ pub fn pilot_slack(by: u32, marked: bool, free: u16, price: u32) -> u32
     if 0 < free {
         return 0;
     }
-    least(by, less_wide(TOP, price))
+    by.min(TOP.saturating_sub(price))
 }

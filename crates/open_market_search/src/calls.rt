@@ -83,11 +83,11 @@ pub(crate) fn call(which: Which, k: usize) -> [u16; 8] {
 
 // Of a party of so many: whether it is there, or is one past the last.
 fn is_near(party: u16, count: usize) -> bool {
-    numbers::index(party) <= count
+    usize::from(party) <= count
 }
 
 fn is_there(party: u16, count: usize) -> bool {
-    numbers::index(party) < count
+    usize::from(party) < count
 }
 
 fn hours_are_tried(which: Which, party: u16, count: usize, hours: u16) -> bool {

@@ -13,7 +13,7 @@ fn pair_hours(ticket: &[u16], settlement: &[u16], kind: u16, party: usize, pair:
 {
     if is_of(ticket, pair, kind, party) {
         let place = 3 + 3 * pair;
-        numbers::index(value(settlement, place)) + numbers::index(value(settlement, place + 1))
+        usize::from(value(settlement, place)) + usize::from(value(settlement, place + 1))
     } else {
         0
     }
@@ -39,7 +39,7 @@ fn are_free(ticket: &[u16], settlement: &[u16], kind: u16, party: usize, hours: 
     }
     let own = value(ticket, hours_place(ticket, kind, party));
     let in_deals = deal_hours(ticket, settlement, kind, party);
-    numbers::index(hours) + in_deals == numbers::index(own)
+    usize::from(hours) + in_deals == usize::from(own)
 }
 
 // Every figure of a row, also beyond the last party.

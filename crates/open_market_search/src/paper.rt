@@ -193,11 +193,11 @@ fn pair_told(ticket: [u16; 27], grower: usize, pilot: usize, call: &[u16; 8]) ->
 // What a call makes of a ticket. Another kind is no call.
 pub(crate) fn answered(ticket: [u16; 27], call: &[u16; 8]) -> Told {
     let kind = call[0];
-    let one = numbers::index(call[1]);
+    let one = usize::from(call[1]);
     if kind == GROWER || kind == PILOT {
         hours_told(ticket, kind, one, call[2])
     } else if kind == PAIR {
-        pair_told(ticket, one, numbers::index(call[2]), call)
+        pair_told(ticket, one, usize::from(call[2]), call)
     } else {
         refused(AGAINST_LIMITS, ticket)
     }

@@ -4,7 +4,6 @@
 ghost use Rattle.std.specs.Prelude.{◌≡◌};
 ghost use Rattle.pair_caps.specs.PairCaps.{amount_with, narrowed_terms};
 
-use numbers::lesser;
 use offers::Terms;
 
 // An amount of a deal with this cap: a cap of 0 clears it.
@@ -18,8 +17,8 @@ fn amount_with(cap: u16, amount: u16) -> u16
 pub fn narrowed(terms: Terms, common: u16) -> Terms
     ensures { result ≡ narrowed_terms common terms }
 {
-    let tariff_cap = lesser(terms.tariff_cap, common);
-    let free_cap = lesser(terms.free_cap, numbers::less(common, tariff_cap));
+    let tariff_cap = terms.tariff_cap.min(common);
+    let free_cap = terms.free_cap.min(common.saturating_sub(tariff_cap));
     Terms {
         tariff_cap,
         tariff_gain: amount_with(tariff_cap, terms.tariff_gain),

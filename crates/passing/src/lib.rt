@@ -9,7 +9,6 @@ ghost use Rattle.passing.specs.Passes.{settlement_passes, passes_as};
 use checks::{Document, Field, fault_of, pair_passes, settlement_fault};
 use documents::HEAD;
 use groups::fits;
-use numbers::index;
 
 // Whether kind, growers and pilots of a ticket have no fault.
 fn head_passes(kind: usize, growers: usize, pilots: usize) -> bool
@@ -29,7 +28,7 @@ fn hours_pass(list: &[u16], parties: usize) -> bool
         Field::Hours,
         0,
         false,
-        index(hours),
+        usize::from(hours),
     ).is_ok())
 }
 
@@ -40,11 +39,11 @@ fn pair_at(none: bool, list: &[u16], at: usize) -> bool
 {
     pair_passes(
         none,
-        index(list[at]),
-        index(list[at + 1]),
-        index(list[at + 2]),
-        index(list[at + 3]),
-        index(list[at + 4]),
+        usize::from(list[at]),
+        usize::from(list[at + 1]),
+        usize::from(list[at + 2]),
+        usize::from(list[at + 3]),
+        usize::from(list[at + 4]),
     )
 }
 
@@ -84,9 +83,9 @@ fn ticket_passes(list: &[u16]) -> bool
     if list.len() < HEAD {
         return false;
     }
-    let growers = index(list[1]);
-    let pilots = index(list[2]);
-    if !head_passes(index(list[0]), growers, pilots) {
+    let growers = usize::from(list[1]);
+    let pilots = usize::from(list[2]);
+    if !head_passes(usize::from(list[0]), growers, pilots) {
         return false;
     }
     if list.len() != HEAD + growers + pilots + 5 * numbers::pairs(growers, pilots) {
@@ -99,7 +98,7 @@ fn ticket_passes(list: &[u16]) -> bool
 fn all_fit(list: &[u16]) -> bool
     ensures { result ≡ all_fit list.now }
 {
-    list.iter().all(|&x| fits(index(x)))
+    list.iter().all(|&x| fits(usize::from(x)))
 }
 
 // No settlement of more growers or pilots than a square has room for passes.
@@ -115,9 +114,9 @@ fn settlement_passes(growers: usize, pilots: usize, list: &[u16]) -> bool
     if list.len() != HEAD + 3 * numbers::pairs(growers, pilots) {
         return false;
     }
-    settlement_fault(growers, pilots, 0, index(list[0])).is_ok()
-        & settlement_fault(growers, pilots, 1, index(list[1])).is_ok()
-        & settlement_fault(growers, pilots, 2, index(list[2])).is_ok()
+    settlement_fault(growers, pilots, 0, usize::from(list[0])).is_ok()
+        & settlement_fault(growers, pilots, 1, usize::from(list[1])).is_ok()
+        & settlement_fault(growers, pilots, 2, usize::from(list[2])).is_ok()
         & all_fit(list)
 }
 

@@ -11,7 +11,7 @@ ghost use Rattle.reader.specs.Answer.{packed_as, Tells, kept};
 use checks::{Document, Refusal};
 use decoding::decode;
 use groups::{Got, number, size};
-use numbers::{front, index};
+use numbers::front;
 use passing::passes;
 use scanning::scan;
 
@@ -72,7 +72,7 @@ fn write_all(list: &[u16], out: &mut [u8])
 {
     let mut here: usize = 0;
     for &x in list {
-        here = write(index(x), out, here);
+        here = write(usize::from(x), out, here);
     }
 }
 

@@ -52,7 +52,7 @@ impl<'a> Source for &'a [u16] {
     fn number_at(self, at: usize) -> Got {
         if at < self.len() {
             Got::Number {
-                value: numbers::index(self[at]),
+                value: usize::from(self[at]),
                 next: at + 1,
             }
         } else {

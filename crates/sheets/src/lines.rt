@@ -51,7 +51,7 @@ fn field(page: &mut [u8; 8216], at: usize, n: u16, end: u8) -> usize
     requires { (n ≤ 500) × (at + 4 ≤ page_bytes) }
     ensures { Wrote page.old page.new at result (decimal n ++ (end ∷ [])) }
 {
-    let next = number(page, at, numbers::index(n));
+    let next = number(page, at, usize::from(n));
     put(page, next, end)
 }
 

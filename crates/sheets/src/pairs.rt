@@ -24,7 +24,7 @@ fn grower_share(hours: u16, gain: u16, pay: u16) -> u16
     if hours == 0 {
         return 0;
     }
-    numbers::less(gain, pay)
+    gain.saturating_sub(pay)
 }
 
 fn pair_numbers(

@@ -10,8 +10,8 @@ fn is_one(party: Party, growers: usize, pilots: usize) -> bool
     ensures { result ≡ is_one party growers pilots }
 {
     match party {
-        Party::Grower { number } => numbers::index(number) < growers,
-        Party::Pilot { number } => numbers::index(number) < pilots,
+        Party::Grower { number } => usize::from(number) < growers,
+        Party::Pilot { number } => usize::from(number) < pilots,
     }
 }
 

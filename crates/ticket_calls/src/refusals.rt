@@ -13,7 +13,7 @@ pub(crate) fn hours_refusal(ticket: &[u16], party: Party, hours: u16) -> u8
     if !is_in(ticket, party) {
         return NO_PARTY;
     }
-    if checks::fault_of(Field::Hours, 0, false, numbers::index(hours)) == 0 {
+    if checks::fault_of(Field::Hours, 0, false, usize::from(hours)) == 0 {
         return 0;
     }
     AGAINST_LIMITS
@@ -24,11 +24,11 @@ fn terms_pass(none: bool, terms: Terms) -> bool
 {
     checks::pair_passes(
         none,
-        numbers::index(terms.tariff_cap),
-        numbers::index(terms.tariff_gain),
-        numbers::index(terms.tariff_pay),
-        numbers::index(terms.free_cap),
-        numbers::index(terms.joint_gain),
+        usize::from(terms.tariff_cap),
+        usize::from(terms.tariff_gain),
+        usize::from(terms.tariff_pay),
+        usize::from(terms.free_cap),
+        usize::from(terms.joint_gain),
     )
 }
 

@@ -22,7 +22,7 @@ fn both_below(of_grower: Option<u16>, of_pilot: Option<u16>, amount: u16) -> boo
     ensures { result ≡ both_below of_grower of_pilot amount }
 {
     match (of_grower, of_pilot) {
-        (Some(w), Some(v)) => numbers::wide(w) + numbers::wide(v) < numbers::wide(amount),
+        (Some(w), Some(v)) => u32::from(w) + u32::from(v) < u32::from(amount),
         _ => false,
     }
 }

@@ -29,10 +29,10 @@ pub fn with_stretch(week: [bool; 168], first: u16, closing: u16) -> [bool; 168]
     ensures { Marks (λ h. get_or week h false || has (stretch first closing) h) result }
 {
     let mut marked = week;
-    let end = numbers::lesser(closing, LATEST);
+    let end = closing.min(LATEST);
     let mut h = first;
     while h < end {
-        marked[numbers::index(h)] = true;
+        marked[usize::from(h)] = true;
         h += 1;
     }
     marked

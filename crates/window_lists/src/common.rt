@@ -5,7 +5,7 @@ ghost use Rattle.week.specs.Week.{covered, Marks};
 ghost use Rattle.window_lists.specs.Windows.{windows_of, common_hours, WeeksOf};
 
 use crate::places::{party_place, window_at};
-use numbers::{entry, index, within};
+use numbers::{entry, within};
 
 // The hours of a party's windows.
 fn week_of(list: &[u16], party: usize) -> [bool; 168]
@@ -13,7 +13,7 @@ fn week_of(list: &[u16], party: usize) -> [bool; 168]
     ensures { Marks (covered (windows_of list.now party)) result }
 {
     let place = party_place(list, party);
-    let count = index(entry(list, place));
+    let count = usize::from(entry(list, place));
     let mut marked = week::no_hours();
     for w in 0..count {
         let window = window_at(list, place, w);
@@ -47,10 +47,10 @@ fn weeks_from(list: &[u16], party: usize, count: usize) -> [[bool; 168]; 16]
 pub fn common_hours(list: &[u16], growers: u16, pilots: u16) -> [[u16; 16]; 16]
     ensures { Filled (common_hours list.now growers) (min 16 growers) (min 16 pilots) result }
 {
-    let rows = within(index(growers));
-    let columns = within(index(pilots));
+    let rows = within(usize::from(growers));
+    let columns = within(usize::from(pilots));
     let grower_weeks = weeks_from(list, 0, rows);
-    let pilot_weeks = weeks_from(list, index(growers), columns);
+    let pilot_weeks = weeks_from(list, usize::from(growers), columns);
     let mut square = grid::zeros();
     for i in 0..rows {
         for j in 0..columns {

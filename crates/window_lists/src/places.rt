@@ -2,7 +2,7 @@
 ghost use Rattle.std.specs.Prelude.{◌≡◌, ◌+◌, ◌*◌, ◌<◌, ◌≤◌};
 ghost use Rattle.window_lists.specs.Windows.{next_place, party_place, window_at, place_limit};
 
-use numbers::{entry, index};
+use numbers::entry;
 
 // A window: its first hour, and its closing hour, which itself is outside.
 #[derive(Clone, Copy)]
@@ -16,7 +16,7 @@ pub(crate) fn next_place(list: &[u16], place: usize) -> usize
     requires { place < place_limit }
     ensures { (result ≡ next_place list.now place) × (result ≤ place + 131071) }
 {
-    place + 1 + 2 * index(entry(list, place))
+    place + 1 + 2 * usize::from(entry(list, place))
 }
 
 // Where the count of a party stands.

@@ -6,7 +6,7 @@ ghost use Rattle.window_lists.specs.WindowRefusals.{window_passes, party_refusal
 
 use crate::places::{next_place, window_at};
 use checks::{BAD_WINDOW, NOT_WINDOWS, first, must};
-use numbers::{entry, index};
+use numbers::entry;
 
 // A party has at most so many windows.
 const MOST: usize = 8;
@@ -31,7 +31,7 @@ fn party_refusal(list: &[u16], place: usize) -> u8
     requires { place < place_limit }
     ensures { result ≡ party_refusal list.now place }
 {
-    let count = index(entry(list, place));
+    let count = usize::from(entry(list, place));
     if MOST < count {
         return NOT_WINDOWS;
     }
@@ -45,7 +45,7 @@ fn party_refusal(list: &[u16], place: usize) -> u8
 pub fn refusal(list: &[u16], growers: u16, pilots: u16) -> u8
     ensures { result ≡ windows_refusal list.now (growers + pilots) }
 {
-    let parties = index(growers) + index(pilots);
+    let parties = usize::from(growers) + usize::from(pilots);
     let mut why: u8 = 0;
     let mut place: usize = 0;
     for k in 0..parties {

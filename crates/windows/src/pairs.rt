@@ -6,7 +6,7 @@ ghost use Rattle.windows.specs.Narrowed.{narrowed};
 ghost use Rattle.windows.specs.Held.{InFront, Holds, pair_call};
 
 use crate::terms::terms_of;
-use numbers::{entry, index};
+use numbers::entry;
 use pair_caps::narrowed;
 
 // Narrows the pair of a grower and a pilot who have so many hours in common.
@@ -27,7 +27,7 @@ pub(crate) fn narrow_pairs(ticket: &mut [u16; 1315], windows: &[u16])
     let common = window_lists::common_hours(windows, growers, pilots);
     for i in 0..growers {
         for j in 0..pilots {
-            let hours = grid::cell(common, index(i), index(j));
+            let hours = grid::cell(common, usize::from(i), usize::from(j));
             narrow_pair(&mut *ticket, i, j, hours);
         }
     }

@@ -4,7 +4,7 @@ ghost use Rattle.std.specs.Prelude.{◌<◌};
 
 use crate::spares::{Spare, flown_by_grower, flown_by_pilot, of_grower, of_pilot};
 use market::Deal;
-use numbers::{entry, index};
+use numbers::entry;
 use tables::{Quantity, Side};
 use verdicts::{Found, Verdict, deal_fault, pair_fault};
 
@@ -91,8 +91,8 @@ fn of_pair(
     list: &mut [u16],
     count: usize,
 ) -> usize {
-    let grower = index(i);
-    let pilot = index(j);
+    let grower = usize::from(i);
+    let pilot = usize::from(j);
     let by_tariff = number(settlement, Quantity::TariffHours, i, j);
     let tariff_cap = number(ticket, Quantity::TariffCap, i, j);
     let over_tariff = pair_fault(grower, pilot, by_tariff, tariff_cap, 0, 0, 0, 0);
@@ -120,7 +120,7 @@ fn of_pairs(ticket: &[u16], settlement: &[u16], list: &mut [u16], count: usize) 
 }
 
 fn over(hours: u16, flown: u32, verdict: Verdict) -> Found {
-    if numbers::wide(hours) < flown {
+    if u32::from(hours) < flown {
         return Found::Fault { verdict };
     }
     Found::Nothing
@@ -131,7 +131,7 @@ fn of_growers(ticket: &[u16], settlement: &[u16], list: &mut [u16], count: usize
     let mut reached = count;
     for i in 0..growers {
         let hours = entry(ticket, tables::hours_place(terms, Side::Growers, i));
-        let grower = index(i);
+        let grower = usize::from(i);
         let found = over(
             hours,
             flown_by_grower(settlement, grower),
@@ -147,7 +147,7 @@ fn of_pilots(ticket: &[u16], settlement: &[u16], list: &mut [u16], count: usize)
     let mut reached = count;
     for j in 0..pilots {
         let hours = entry(ticket, tables::pilot_place(ticket, j));
-        let pilot = index(j);
+        let pilot = usize::from(j);
         let found = over(
             hours,
             flown_by_pilot(settlement, pilot),
@@ -188,8 +188,8 @@ fn cap_in(deal: Deal) -> Quantity {
 
 // The count of deals is not told with these faults.
 fn of_deal(ticket: &[u16], settlement: &[u16], i: u16, j: u16, deal: Deal) -> Found {
-    let grower = index(i);
-    let pilot = index(j);
+    let grower = usize::from(i);
+    let pilot = usize::from(j);
     let by_grower = flown_by_grower(settlement, grower);
     let by_pilot = flown_by_pilot(settlement, pilot);
     let of_grower = of_grower(ticket, settlement, grower, pilot, deal);
@@ -201,7 +201,10 @@ fn of_deal(ticket: &[u16], settlement: &[u16], i: u16, j: u16, deal: Deal) -> Fo
         0,
         number(settlement, hours_in(deal), i, j),
         number(ticket, cap_in(deal), i, j),
-        numbers::left(entry(ticket, tables::hours_place(terms, Side::Growers, i)), by_grower),
+        numbers::left(
+            entry(ticket, tables::hours_place(terms, Side::Growers, i)),
+            by_grower,
+        ),
         numbers::left(entry(ticket, tables::pilot_place(ticket, j)), by_pilot),
         worth_of(of_grower),
         worth_of(of_pilot),

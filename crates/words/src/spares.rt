@@ -35,7 +35,7 @@ fn column(square: [[u16; 16]; 16], j: usize) -> [u16; 16] {
 fn all_less(from: [u16; 16], what: [u16; 16]) -> [u16; 16] {
     let mut rest = grid::zero_row();
     for k in 0..16usize {
-        rest[k] = numbers::less(from[k], what[k]);
+        rest[k] = from[k].saturating_sub(what[k]);
     }
     rest
 }
@@ -44,7 +44,7 @@ fn all_less(from: [u16; 16], what: [u16; 16]) -> [u16; 16] {
 fn left(hours: u16, flown: [u16; 16]) -> u16 {
     let mut rest = hours;
     for k in 0..16usize {
-        rest = numbers::less(rest, flown[k]);
+        rest = rest.saturating_sub(flown[k]);
     }
     rest
 }
