@@ -3,6 +3,7 @@
 -- settlement has a worth.
 -- Assumes nothing.
 use Rattle.std.specs.Prelude.{ℕ, ◌≤◌, ◌<◌, ◌≡◌, ◌⊎◌}
+use Rattle.checks.specs.Refusals.{number_of}
 use Rattle.market.specs.declared.Deal.{Deal}
 use Rattle.market.specs.declared.Deal.TheVariants.{Tariff, Free}
 use Rattle.verdicts.specs.declared.Values.{Values}
@@ -22,7 +23,7 @@ abbrev pub refusal_values : ℕ → Values
 refusal_values why = record { refusal = why; verdict = 0; grower = 0; pilot = 0; deal = Tariff; count = 0; worth = 0 }
 
 abbrev pub values_of : Verdict → Values
-values_of (Refused why) = refusal_values why
+values_of (Refused why) = refusal_values (number_of why)
 values_of (Sound count worth) = sound_values count worth
 values_of (TariffOverCap i j) = fault_values 2 i j Tariff 0
 values_of (FreeOverCap i j) = fault_values 3 i j Free 0

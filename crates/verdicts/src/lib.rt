@@ -7,6 +7,7 @@ mod pair_faults;
 mod paper;
 
 pub use cheap_spares::cheapest_spare;
+use checks::Refusal;
 pub use deal_faults::deal_fault;
 use market::Deal;
 pub use pair_faults::pair_fault;
@@ -14,10 +15,10 @@ pub use paper::values_of;
 
 // The answer of marking. A fault names the grower, the pilot and the deal; the count is the number of deals looked at in the last walk. The
 // worth of a sound settlement is 0 where a tariff cap is above 0.
-#[derive(Clone, Copy)]
+#[derive(Clone, Copy, Debug, PartialEq, Eq)]
 pub enum Verdict {
     Refused {
-        why: u8,
+        why: Refusal,
     },
     Sound {
         count: usize,
@@ -56,7 +57,7 @@ pub enum Verdict {
 }
 
 // The paper's number and values of a verdict. Places that it has no use for are 0, and the deal is then tariff.
-#[derive(Clone, Copy)]
+#[derive(Clone, Copy, Debug, PartialEq, Eq)]
 pub struct Values {
     pub refusal: u8,
     pub verdict: u8,

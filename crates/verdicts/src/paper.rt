@@ -28,7 +28,7 @@ pub fn values_of(verdict: Verdict) -> Values
 {
     match verdict {
         Verdict::Refused { why } => Values {
-            refusal: why,
+            refusal: u8::from(why),
             verdict: 0,
             grower: 0,
             pilot: 0,

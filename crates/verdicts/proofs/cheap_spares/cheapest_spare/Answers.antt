@@ -1,1 +1,0 @@
--- `verdicts::cheapest_spare` meets its contract: in each arm the rows without the deal's own hours are what the definition counts.
