@@ -14,17 +14,17 @@ returns-then-s-here c = reading_ends c.loop-k.invariant c.loop-k-test.true c.if-
 pub returns-then-b-least : goal.returns-then-b-least
 returns-then-b-least c = reading_padded
     c.loop-k.invariant
-    c.wide-b.result c.wide-b.ensures.0 (omega arith) (omega arith) (omega arith) (omega arith)
+    c.from-b.result c.from-b.ensures (omega arith) (omega arith) (omega arith) (omega arith)
 
 pub returns-then-b-lt128 : goal.returns-then-b-lt128
 returns-then-b-lt128 c = reading_number
     c.loop-k.invariant
-    c.wide-b.result c.wide-b.ensures.0 (omega arith) (omega arith) (omega arith) (omega arith)
+    c.from-b.result c.from-b.ensures (omega arith) (omega arith) (omega arith) (omega arith)
 
 pub loop-k-preserved : goal.loop-k-preserved
 loop-k-preserved c = reading_turns
     c.loop-k.invariant
-    c.wide-b.result c.wide-b.ensures.0 (omega arith) (omega arith) (omega arith)
+    c.from-b.result c.from-b.ensures (omega arith) (omega arith) (omega arith)
 
 pub returns : goal.returns
 returns c = reading_long c.loop-k.invariant (omega arith)
