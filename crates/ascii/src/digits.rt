@@ -8,7 +8,7 @@ ghost use Rattle.ascii.specs.Writing.{Wrote};
 fn last_digit(n: usize) -> u8
     ensures { result ≡ digit (n % 10) }
 {
-    (48 + n % 10) as u8
+    b'0' + (n % 10) as u8
 }
 
 // Writes a number, without leading zeros, at the end of a lent array, and returns the place of its first digit. Twenty places hold every

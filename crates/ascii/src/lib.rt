@@ -12,9 +12,5 @@ pub use digits::numeral;
 pub fn front<'a>(bytes: &'a [u8], count: usize) -> &'a [u8]
     ensures { result.now ≡ take count bytes.now }
 {
-    if count < bytes.len() {
-        &bytes[..count]
-    } else {
-        bytes
-    }
+    &bytes[..count.min(bytes.len())]
 }

@@ -1,12 +1,12 @@
 -- What was put stands in the page, if there was room for it.
 -- Assumes nothing.
-use mathlib.Core.Path.{◌≡◌, refl, ◌∙◌}
-use mathlib.Core.List.{List, [], ◌∷◌}
-use Prim.Native.Nat.{ℕ, ◌+◌, ◌≤◌, ◌<◌}
+use mathlib.Core.Path.{◌≡◌, refl, sym, ◌∙◌}
+use mathlib.Core.List.{List, ◌++◌, append_assoc}
+use Prim.Native.Nat.{ℕ, ◌+◌, ◌-◌, ◌≤◌, ◌<◌}
 use native.Mathlib.Omega.{arith}
 use borrow.Author.Tests.{le-leb, lt-leb}
-use lib.ListN.{length, set}
-use lib.Seq.{sets}
+use lib.ListN.{length, take, drop}
+use lib.Seq.{sets, sets-eq, drop-drop}
 use Rattle.ascii.specs.Writing.{Wrote}
 use Rattle.pages.specs.Put.{Put, put_at, after_put}
 
@@ -26,5 +26,10 @@ module _ {page page' : List ℕ} {at end : ℕ} {bytes : List ℕ} (p : Put page
   pub put-within : (most : ℕ) → length bytes ≤ most → at + most ≤ length page → Wrote page page' at end bytes × (end ≤ at + most)
   put-within most short room = let w = put_wrote (omega arith) in (w, omega (arith, w.ends))
 
-pub wrote_byte : (l : List ℕ) (at b : ℕ) → Wrote l (set l at b) at (at + 1) (b ∷ [])
-wrote_byte l at b = record { stored = refl; ends = refl }
+-- bytes between what stood before them and after them
+pub copied : (page bytes : List ℕ) (at : ℕ) → at + length bytes ≤ length page →
+    take at page ++ (bytes ++ drop (at + length bytes - at) (drop at page)) ≡ sets page at bytes
+copied page bytes at h =
+    let long : at + length bytes - at ≡ length bytes = omega arith in
+    rw (long, drop-drop (length bytes) at page)
+    (sym (append_assoc (take at page) bytes (drop (at + length bytes) page)) ∙ sym (sets-eq bytes page at h))

@@ -11,22 +11,16 @@ fn copy(page: &mut [u8], at: usize, words: &[u8]) -> usize
     requires { at + length words.now ≤ length page.old }
     ensures { Wrote page.old page.new at result words.now }
 {
-    let mut here = at;
-    for k in 0..words.len() {
-        page[here] = words[k];
-        here += 1;
-    }
-    here
+    let end = at + words.len();
+    page[at..end].copy_from_slice(words);
+    end
 }
 
 // Puts bytes into a page from a place on, if they fit there, and returns the place after them.
 pub fn put(page: &mut [u8], at: usize, words: &[u8]) -> usize
     ensures { Put page.old page.new at result words.now }
 {
-    if page.len() < at {
-        return at;
-    }
-    if page.len() - at < words.len() {
+    if page.len() < at || page.len() - at < words.len() {
         return at;
     }
     copy(page, at, words)
