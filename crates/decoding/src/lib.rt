@@ -55,8 +55,8 @@ fn decode_numbers(s: &[u8], list: &mut [u16]) -> usize
 {
     let mut count: usize = 0;
     let mut prior: usize = 0;
-    for i in 0..s.len() {
-        let b = usize::from(s[i]);
+    for &byte in s {
+        let b = usize::from(byte);
         list[count] = joined(prior, b);
         count = count + ended(b);
         prior = b;

@@ -4,4 +4,4 @@ use Rattle.draws.proofs.filling.fill_hours.Goals as goal
 
 pub loop-k-preserved : goal.loop-k-preserved
 loop-k-preserved c = hours_turn c.loop-k.invariant _ _ _ _ c.loop-k-test.true c.hours-drawn.ensures
-    c.index.ensures.0 c.noted-without.ensures c.next-here.ensures
+    c.from.ensures c.noted-without.ensures c.next-here.ensures

@@ -8,5 +8,5 @@ use Rattle.reader.proofs.copy.write_all.Goals as goal
 pub loop-x-preserved : goal.loop-x-preserved
 loop-x-preserved c = (
   c.loop-x.invariant.0,
-  packing_turns c.loop-x.invariant.1 _ (omega arith) c.index.ensures.0 _ _ c.write-here.ensures.0 c.write-here.ensures.1,
+  packing_turns c.loop-x.invariant.1 _ (omega arith) c.from.ensures _ _ c.write-here.ensures.0 c.write-here.ensures.1,
 )

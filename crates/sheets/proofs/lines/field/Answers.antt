@@ -5,7 +5,7 @@ use Rattle.ascii.proofs.Spelling.{decimal_short}
 use Rattle.sheets.proofs.lines.field.Goals as goal
 
 pub put-requires : goal.put-requires
-put-requires c = omega (arith, decimal_short c.index.result, c.number-next.ensures.ends)
+put-requires c = omega (arith, decimal_short c.from.result, c.number-next.ensures.ends)
 
 pub returns : goal.returns
-returns c = wrote_then (rw c.index.ensures.0 at c.number-next.ensures) c.put.ensures
+returns c = wrote_then (rw c.from.ensures at c.number-next.ensures) c.put.ensures
