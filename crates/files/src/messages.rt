@@ -1,35 +1,40 @@
 // Messages, on standard error. Each is a line that begins with `exchange: `.
-use crate::reasons::{is_unread, tell};
-use crate::streams::{Standard, Stream, flush, put, to};
-use std::io::Error;
+use crate::printed::{Text, write_text};
+use crate::reasons::{is_unread, reason_in, told};
+use std::io::{Error, Result, Write};
 
-// Room for a name and more.
-fn room() -> [u8; 8192] {
-    [0; 8192]
+// What is said of a file, after the name that the user gave it.
+#[derive(Clone, Copy)]
+pub struct About<'a, T> {
+    pub name: &'a [u8],
+    pub text: T,
 }
 
-// Puts how a message begins.
-pub fn message_of(rt: &HostRuntime, page: &mut [u8], name: &[u8]) -> Stream {
-    let begun = put(page, to(rt, Standard::Error), b"exchange: ");
-    put(page, begun, name)
+impl<'a, T: Text> Text for About<'a, T> {
+    fn write<W: Write>(&self, out: &mut W) -> Result<()> {
+        out.write_all(self.name)?;
+        out.write_all(b": ")?;
+        self.text.write(out)
+    }
 }
 
-// A message about the program's use.
-pub fn complain(rt: &HostRuntime, words: &[u8]) {
-    let mut page = room();
-    let begun = message_of(rt, &mut page, words);
-    let whole = put(&mut page, begun, b"\n");
-    flush(&page, whole);
+// The line of a message.
+#[derive(Drop)]
+struct Line<'a, T> {
+    text: &'a T,
 }
 
-// A message about a file.
-pub fn complain_of(rt: &HostRuntime, name: &[u8], words: &[u8]) {
-    let mut page = room();
-    let begun = message_of(rt, &mut page, name);
-    let named = put(&mut page, begun, b": ");
-    let told = put(&mut page, named, words);
-    let whole = put(&mut page, told, b"\n");
-    flush(&page, whole);
+impl<'a, T: Text> Text for Line<'a, T> {
+    fn write<W: Write>(&self, out: &mut W) -> Result<()> {
+        out.write_all(b"exchange: ")?;
+        self.text.write(out)?;
+        out.write_all(b"\n")
+    }
+}
+
+// Writes a message. That it can not be written is told nowhere.
+pub fn message(rt: &HostRuntime, text: &impl Text) {
+    let _ = write_text(rt, rt.stderr(), &Line { text });
 }
 
 // Which file a call of the system failed on, and the system's reason.
@@ -37,7 +42,7 @@ pub fn fail(rt: &HostRuntime, name: &[u8], error: Error) {
     if is_unread(&error) {
         return;
     }
-    let mut page = room();
-    let begun = message_of(rt, &mut page, name);
-    tell(rt, ascii::front(&page, begun.filled), error);
+    let whole = told(rt, &error);
+    let text = reason_in(&error, whole.as_str());
+    message(rt, &About { name, text });
 }

@@ -1,22 +1,17 @@
 // Reading a file, or standard input where it is named `-`. What fails in `read` is told on standard error, with the system's reason.
 use crate::messages::fail;
 use crate::names::name_of;
+use crate::printed::Told;
 use std::fs::File;
-use std::io::{Read, Result};
-
-// How many bytes were read, unless reading failed.
-#[derive(Clone, Copy)]
-pub enum Got {
-    Failed,
-    Bytes { count: usize },
-}
+use std::io;
+use std::io::Read;
 
 pub fn is_dash(name: &[u8]) -> bool {
-    check::same(name, b"-")
+    name == b"-".as_slice()
 }
 
 // Reads as far as the buffer goes, and once more, for a read that fails past it.
-pub fn fill(source: &mut impl Read, buffer: &mut [u8]) -> Result<usize> {
+pub fn fill(source: &mut impl Read, buffer: &mut [u8]) -> io::Result<usize> {
     let mut count = 0;
     while count < buffer.len() {
         let got = source.read(&mut buffer[count..])?;
@@ -30,7 +25,7 @@ pub fn fill(source: &mut impl Read, buffer: &mut [u8]) -> Result<usize> {
     Ok(count)
 }
 
-fn fill_from(rt: &HostRuntime, name: &[u8], buffer: &mut [u8]) -> Result<usize> {
+fn fill_from(rt: &HostRuntime, name: &[u8], buffer: &mut [u8]) -> io::Result<usize> {
     if is_dash(name) {
         return fill(&mut rt.stdin(), buffer);
     }
@@ -38,13 +33,13 @@ fn fill_from(rt: &HostRuntime, name: &[u8], buffer: &mut [u8]) -> Result<usize> 
     fill(&mut file, buffer)
 }
 
-// Reads a file, as far as the buffer goes.
-pub fn read(rt: &HostRuntime, name: &[u8], buffer: &mut [u8]) -> Got {
+// What a file holds, as far as the buffer goes.
+pub fn read<'a>(rt: &HostRuntime, name: &[u8], buffer: &'a mut [u8]) -> Result<&'a [u8], Told> {
     match fill_from(rt, name, buffer) {
-        Ok(count) => Got::Bytes { count },
+        Ok(count) => Ok(ascii::front(buffer, count)),
         Err(error) => {
             fail(rt, name, error);
-            Got::Failed
+            Err(Told)
         }
     }
 }

@@ -34,7 +34,7 @@ fn written_out(rt: &HostRuntime, words: &[u8]) -> bool {
         Ok(()) => true,
         Err(error) => {
             if !is_unread(&error) {
-                tell(rt, b"exchange: standard output", error);
+                tell(rt, "exchange: standard output", error);
             }
             false
         }
@@ -137,4 +137,18 @@ pub fn fill_in(page: &mut [u8], stream: Stream, form: &[u8], figures: &[u64]) ->
         filling = next;
     }
     filling.stream
+}
+
+// Puts how a message begins.
+pub fn message_of(rt: &HostRuntime, page: &mut [u8], name: &[u8]) -> Stream {
+    let begun = put(page, to(rt, Standard::Error), b"exchange: ");
+    put(page, begun, name)
+}
+
+// A message about the program's use.
+pub fn complain(rt: &HostRuntime, words: &[u8]) {
+    let mut page = [0u8; 8192];
+    let begun = message_of(rt, &mut page, words);
+    let whole = put(&mut page, begun, b"\n");
+    flush(&page, whole);
 }

@@ -2,11 +2,12 @@
 use crate::links::{beside, followed};
 use crate::messages::fail;
 use crate::names::name_of;
+use crate::printed::Told;
 use crate::reading::is_dash;
-use std::fs;
 use std::fs::{File, OpenOptions};
-use std::io::{Error, ErrorKind, Result, Write};
+use std::io::{Error, ErrorKind, Write};
 use std::os::unix::fs::OpenOptionsExt;
+use std::{fs, io};
 
 // How often a name is drawn for a new file, where others have taken the names before.
 const MOST_DRAWS: usize = 100;
@@ -17,32 +18,32 @@ const USUAL_RIGHTS: u32 = 0o666;
 const PRIVATE_RIGHTS: u32 = 0o600;
 
 // Writes bytes to an open file and closes it: all of them are stored, or it fails.
-fn store(mut file: File, bytes: &[u8]) -> Result<()> {
+fn store(mut file: File, bytes: &[u8]) -> io::Result<()> {
     file.write_all(bytes)?;
     file.sync_all()
 }
 
-fn create(rt: &HostRuntime, name: &[u8], rights: u32) -> Result<File> {
+fn create(rt: &HostRuntime, name: &str, rights: u32) -> io::Result<File> {
     OpenOptions::new()
         .write(true)
         .create_new(true)
         .mode(rights)
-        .open(rt, name_of(name)?)
+        .open(rt, name)
 }
 
-// A new file, and the length of its name.
+// A new file, and its name.
 #[derive(Drop)]
 struct NewFile {
     file: File,
-    length: usize,
+    name: String,
 }
 
-// A new file beside another, under a name that nobody has, which takes the place of what the path held.
-fn new_beside(rt: &HostRuntime, target: &[u8], path: &mut [u8], rights: u32) -> Result<NewFile> {
+// A new file beside another, under a name that nobody has.
+fn new_beside(rt: &HostRuntime, target: &str, rights: u32) -> io::Result<NewFile> {
     for _ in 0..MOST_DRAWS {
-        let length = beside(rt, target, path)?;
-        match create(rt, ascii::front(path, length), rights) {
-            Ok(file) => return Ok(NewFile { file, length }),
+        let name = beside(rt, target)?;
+        match create(rt, name.as_str(), rights) {
+            Ok(file) => return Ok(NewFile { file, name }),
             Err(error) if error.kind() == ErrorKind::AlreadyExists => {}
             Err(error) => return Err(error),
         }
@@ -51,92 +52,47 @@ fn new_beside(rt: &HostRuntime, target: &[u8], path: &mut [u8], rights: u32) -> 
 }
 
 // A new file in the place of an open one, with its owner and rights, or of none.
-fn new_file(
-    rt: &HostRuntime,
-    target: &[u8],
-    path: &mut [u8],
-    old: Option<&File>,
-) -> Result<NewFile> {
+fn new_file(rt: &HostRuntime, target: &str, old: Option<&File>) -> io::Result<NewFile> {
     match old {
-        None => new_beside(rt, target, path, USUAL_RIGHTS),
+        None => new_beside(rt, target, USUAL_RIGHTS),
         Some(old) => {
-            let new = new_beside(rt, target, path, PRIVATE_RIGHTS)?;
+            let new = new_beside(rt, target, PRIVATE_RIGHTS)?;
             file_modes::keep(old, &new.file);
             Ok(new)
         }
     }
 }
 
-// Fills a new file and gives it the name of the old one, which stays as it was until then.
-fn store_as(rt: &HostRuntime, file: File, new: &[u8], target: &[u8], bytes: &[u8]) -> Result<()> {
-    store(file, bytes)?;
-    fs::rename(rt, name_of(new)?, name_of(target)?)
-}
-
-fn remove(rt: &HostRuntime, name: &[u8]) -> Result<()> {
-    fs::remove_file(rt, name_of(name)?)
-}
-
-// The same, and where it fails the new file is removed.
-fn exchange_files(
-    rt: &HostRuntime,
-    file: File,
-    new: &[u8],
-    target: &[u8],
-    name: &[u8],
-    bytes: &[u8],
-) -> bool {
-    match store_as(rt, file, new, target, bytes) {
-        Ok(()) => true,
-        Err(error) => {
-            fail(rt, name, error);
-            let _ = remove(rt, new);
-            false
-        }
+// Writes a new file beside the one that is named, or beside the one that its link leads to, and gives it that name once it is whole: the
+// old one stays as it was until then. Where that fails the new file is removed.
+fn replace(rt: &HostRuntime, name: &str, old: Option<&File>, bytes: &[u8]) -> io::Result<()> {
+    let target = followed(rt, name)?;
+    let NewFile { file, name: new } = new_file(rt, target.as_str(), old)?;
+    let mut done = store(file, bytes);
+    if done.is_ok() {
+        done = fs::rename(rt, new.as_str(), target.as_str());
     }
-}
-
-// Writes a new file beside the one that is named, or beside the one that its link leads to, and gives it that name once it is whole.
-fn replace(rt: &HostRuntime, name: &[u8], old: Option<&File>, bytes: &[u8]) -> Result<bool> {
-    let mut path = io::buffer();
-    let target_length = followed(rt, name, &mut path)?;
-    let target = ascii::front(&path, target_length);
-    let mut new = io::buffer();
-    let made = new_file(rt, target, &mut new, old)?;
-    let NewFile { file, length } = made;
-    Ok(exchange_files(rt, file, ascii::front(&new, length), target, name, bytes))
-}
-
-// Whether something was done; what failed is told.
-fn told(rt: &HostRuntime, name: &[u8], done: Result<bool>) -> bool {
-    match done {
-        Ok(done) => done,
-        Err(error) => {
-            fail(rt, name, error);
-            false
-        }
+    if done.is_err() {
+        let _ = fs::remove_file(rt, new.as_str());
     }
+    done
 }
 
-// Writes bytes to a device or a pipe: a renamed file would take its place.
-fn write_through(mut device: File, bytes: &[u8]) -> Result<bool> {
-    device.write_all(bytes)?;
-    Ok(true)
-}
-
-fn write_over(rt: &HostRuntime, name: &[u8], old: File, bytes: &[u8]) -> Result<bool> {
+// A device or a pipe is written to, since a renamed file would take its place.
+fn write_over(rt: &HostRuntime, name: &str, mut old: File, bytes: &[u8]) -> io::Result<()> {
     if file_modes::is_file(&old)? {
         return replace(rt, name, Some(&old), bytes);
     }
-    write_through(old, bytes)
+    old.write_all(bytes)
 }
 
 // An open for appending leaves a file as it is, and waits for a pipe's reader.
-fn open_append(rt: &HostRuntime, name: &[u8]) -> Result<File> {
-    OpenOptions::new().append(true).open(rt, name_of(name)?)
+fn open_append(rt: &HostRuntime, name: &str) -> io::Result<File> {
+    OpenOptions::new().append(true).open(rt, name)
 }
 
-fn write_to(rt: &HostRuntime, name: &[u8], bytes: &[u8]) -> Result<bool> {
+fn write_to(rt: &HostRuntime, name: &[u8], bytes: &[u8]) -> io::Result<()> {
+    let name = name_of(name)?;
     match open_append(rt, name) {
         Ok(old) => write_over(rt, name, old, bytes),
         Err(error) if error.kind() == ErrorKind::NotFound => replace(rt, name, None, bytes),
@@ -144,20 +100,26 @@ fn write_to(rt: &HostRuntime, name: &[u8], bytes: &[u8]) -> Result<bool> {
     }
 }
 
-// Writes the file of a name, which is free or that of a file that can be written. Answers whether it did.
-pub fn write_named(rt: &HostRuntime, name: &[u8], bytes: &[u8]) -> bool {
-    told(rt, name, write_to(rt, name, bytes))
+// What failed is told.
+fn tell(rt: &HostRuntime, name: &[u8], done: io::Result<()>) -> Result<(), Told> {
+    match done {
+        Ok(()) => Ok(()),
+        Err(error) => {
+            fail(rt, name, error);
+            Err(Told)
+        }
+    }
 }
 
-fn write_out(rt: &HostRuntime, bytes: &[u8]) -> Result<bool> {
-    rt.stdout().write_all(bytes)?;
-    Ok(true)
+// Writes the file of a name, which is free or that of a file that can be written.
+pub fn write_named(rt: &HostRuntime, name: &[u8], bytes: &[u8]) -> Result<(), Told> {
+    tell(rt, name, write_to(rt, name, bytes))
 }
 
 // The same, or standard output where the name is `-`.
-pub fn write(rt: &HostRuntime, name: &[u8], bytes: &[u8]) -> bool {
+pub fn write(rt: &HostRuntime, name: &[u8], bytes: &[u8]) -> Result<(), Told> {
     if is_dash(name) {
-        return told(rt, name, write_out(rt, bytes));
+        return tell(rt, name, rt.stdout().write_all(bytes));
     }
     write_named(rt, name, bytes)
 }
