@@ -1,5 +1,6 @@
 -- An account that is not refused hands out what the hours of its settlement are worth, and no more.
 -- Assumes nothing.
+use Rattle.std.specs.Prelude.{Ok}
 use Prim.Native.Nat.{ℕ, ◌+◌, ◌*◌}
 use mathlib.Core.Path.{◌≡◌, refl, sym, ap, ap₂, ◌∙◌}
 use mathlib.Core.List.{List}
@@ -10,7 +11,6 @@ use Rattle.grid.proofs.Sums.{sum_same}
 use Rattle.market.specs.Market.{Ticket, Settlement, Feasible}
 use Rattle.market.specs.Accounts.{grower_gain, pilot_pay, worth_of_hours}
 use Rattle.market.proofs.AccountTotals.{account_total}
-use Rattle.reader.specs.declared.Reply.{Reply}
 use Rattle.tables.specs.View.{ticket_of, settlement_of}
 use Rattle.verdicts.specs.declared.Verdict.{Verdict}
 use Rattle.verdicts.specs.declared.Verdict.TheVariants.{Refused, Sound, TariffOverCap, FreeOverCap, WrongPay}
@@ -34,7 +34,7 @@ numbers_hand_out t x f =
 
 -- an account by a verdict that is not refused, of a settlement that is feasible if the verdict is sound
 by_verdict : (t : Ticket) (x : Settlement) (v : Verdict) (count : ℕ) → (verdict_number v ≡ 1 → Feasible t x) →
-    (account_in (outcome_by v (account_numbers t x))).reply ≡ Reply.Done count →
+    (account_in (outcome_by v (account_numbers t x))).reply ≡ Ok count →
     (count ≡ t.growers + 2 * t.pilots) × HandsOut t x (account_in (outcome_by v (account_numbers t x))).list
 by_verdict t x (Refused w) count f e = never cc
 by_verdict t x (Sound k w) count f e =
@@ -49,7 +49,7 @@ by_verdict t x (Idle i j d k) count f e = never cc
 by_verdict t x (Blocks i j d k) count f e = never cc
 
 -- what `account` returns, if it is not a refusal
-pub account_worth : (ticket settlement : List ℕ) (a : Account) (count : ℕ) → a ≡ accounted ticket settlement → a.reply ≡ Reply.Done count →
+pub account_worth : (ticket settlement : List ℕ) (a : Account) (count : ℕ) → a ≡ accounted ticket settlement → a.reply ≡ Ok count →
     let t = ticket_of (ticket_numbers ticket) in
     (count ≡ t.growers + 2 * t.pilots) × HandsOut t (settlement_of (settlement_numbers ticket settlement)) a.list
 account_worth ticket settlement a count e done =

@@ -1,5 +1,6 @@
 -- What is summed of rows is what market says that everybody earns; and of a sound settlement it is not much.
 -- Assumes nothing.
+use Rattle.std.specs.Prelude.{Ok}
 use Prim.Native.Nat.{ℕ, ◌+◌, ◌*◌, ◌-◌, ◌<◌, ◌≤◌, min}
 use mathlib.Core.Path.{◌≡◌, ap, ◌∙◌}
 use mathlib.Core.List.{List}
@@ -11,7 +12,6 @@ use Rattle.grid.proofs.Sums.{sum_same, sum_bound}
 use Rattle.market.specs.declared.Deal.TheVariants.{Tariff, Free}
 use Rattle.market.specs.Market.{Ticket, Settlement, Feasible}
 use Rattle.market.specs.Accounts.{grower_gain, pilot_pay}
-use Rattle.reader.specs.Walk.{Numbers}
 use Rattle.reader.specs.Answer.{unpacked, settlement_read}
 use Rattle.reader.proofs.Facts.{settlement_shape}
 use Rattle.tables.specs.declared.Quantity.{Quantity}
@@ -101,8 +101,8 @@ module _ (t : Ticket) (x : Settlement) (l : Limits t) (f : Feasible t x) where
       (omega (arith, f.pay_in_gain i j hi hj, l.joint_gain i j hi hj))) in
       omega (arith, l.growers)
 
-pub files_modest : (bytes xs settlement ys : List ℕ) → unpacked bytes ≡ Numbers xs →
-    settlement_read (growers_of xs) (pilots_of xs) settlement ≡ Numbers ys → Feasible (ticket_of xs) (settlement_of ys) → Modest xs ys
+pub files_modest : (bytes xs settlement ys : List ℕ) → unpacked bytes ≡ Ok xs →
+    settlement_read (growers_of xs) (pilots_of xs) settlement ≡ Ok ys → Feasible (ticket_of xs) (settlement_of ys) → Modest xs ys
 files_modest bytes xs settlement ys e r f =
     let l = limits bytes xs e in
     let shape = settlement_shape (growers_of xs) (pilots_of xs) settlement ys r in

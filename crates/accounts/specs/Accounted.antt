@@ -1,12 +1,13 @@
 -- The account of a ticket's bytes and a settlement's: what each grower gains, then pilot by pilot what he is paid and the commission on
 -- it. What marking refuses is refused with the same number, and then a settlement that is not sound.
 -- Assumes nothing.
+use Rattle.std.specs.Prelude.{Ok, Err}
 use Rattle.std.specs.Prelude.{ℕ, zero, suc, ◌+◌, ◌*◌, ◌-◌, List, [], ◌∷◌, ◌++◌, length, get_or, replicate}
 use Rattle.market.specs.Market.{Ticket, Settlement}
 use Rattle.market.specs.Accounts.{grower_gain, pilot_pay}
 use Rattle.commission.specs.Bands.{commission}
 use Rattle.checks.specs.Refusals.{not_sound}
-use Rattle.reader.specs.Walk.{Outcome, Refusal, Numbers}
+use Rattle.reader.specs.Walk.{Outcome}
 use Rattle.reader.specs.Values.{Values, refused_with, done_with}
 use Rattle.reader.specs.Answer.{unpacked, settlement_read, counted}
 use Rattle.verdicts.specs.declared.Verdict.{Verdict}
@@ -54,8 +55,8 @@ padded xs = xs ++ replicate (places - length xs) 0
 
 -- the numbers of an outcome, none where it is a refusal
 abbrev pub numbers_in : Outcome → List ℕ
-numbers_in (Refusal w) = []
-numbers_in (Numbers xs) = xs
+numbers_in (Err w) = []
+numbers_in (Ok xs) = xs
 
 -- of the numbers, or of a refusal
 abbrev pub account_in : Outcome → Account
@@ -63,20 +64,20 @@ account_in o = record { reply = counted o; list = padded (numbers_in o) }
 
 -- its reply on paper
 abbrev pub values_in : Outcome → Values
-values_in (Refusal w) = refused_with w
-values_in (Numbers xs) = done_with (length xs)
+values_in (Err w) = refused_with w
+values_in (Ok xs) = done_with (length xs)
 
 -- The numbers xs if the verdict on the settlement is sound.
 abbrev pub outcome_by : Verdict → List ℕ → Outcome
-outcome_by (Refused why) xs = Refusal why
-outcome_by (Sound count worth) xs = Numbers xs
-outcome_by (TariffOverCap i j) xs = Refusal not_sound
-outcome_by (FreeOverCap i j) xs = Refusal not_sound
-outcome_by (WrongPay i j) xs = Refusal not_sound
-outcome_by (GrowerOverHours i) xs = Refusal not_sound
-outcome_by (PilotOverHours j) xs = Refusal not_sound
-outcome_by (Idle i j d count) xs = Refusal not_sound
-outcome_by (Blocks i j d count) xs = Refusal not_sound
+outcome_by (Refused why) xs = Err why
+outcome_by (Sound count worth) xs = Ok xs
+outcome_by (TariffOverCap i j) xs = Err not_sound
+outcome_by (FreeOverCap i j) xs = Err not_sound
+outcome_by (WrongPay i j) xs = Err not_sound
+outcome_by (GrowerOverHours i) xs = Err not_sound
+outcome_by (PilotOverHours j) xs = Err not_sound
+outcome_by (Idle i j d count) xs = Err not_sound
+outcome_by (Blocks i j d count) xs = Err not_sound
 
 -- From files.
 

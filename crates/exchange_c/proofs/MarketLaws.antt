@@ -1,5 +1,7 @@
 -- Every reply about a market has a small count, so its number tells it: `open_told`, `call_told`, `settlement_told`.
 -- Assumes nothing.
+use Rattle.std.specs.Prelude.{Result, Ok, Err}
+use Rattle.checks.specs.declared.refusals.Refusal.{Refusal}
 use Prim.Native.Nat.{ℕ, ◌≤◌, ◌<◌}
 use mathlib.Core.Bool.{Bool, true, false, cond}
 use mathlib.Core.Logic.{⊎_elim}
@@ -10,8 +12,7 @@ use lib.Dec.{eqb}
 use lib.ListN.{length, drop, replicate, length-take, length-replicate}
 use lib.Seq.{length-sets}
 use Rattle.grid.proofs.Cases.{lt_or_le}
-use Rattle.reader.specs.declared.Reply.{Reply}
-use Rattle.reader.specs.Walk.{Outcome, Refusal, Numbers}
+use Rattle.reader.specs.Walk.{Outcome}
 use Rattle.documents.specs.Layout.{settlement}
 use Rattle.reader.specs.Answer.{unpacked, reply}
 use Rattle.groups.specs.Groups.{bytes}
@@ -27,41 +28,41 @@ use Rattle.exchange_c.proofs.ReplyLaws.{reply_small, number_tells, gives_short}
 
 -- A market that was opened has as many numbers as every market, whatever the ticket.
 opened_lengths : (o : Outcome) (answer : Answer) → OpenedAs o answer → Lengths answer.market
-opened_lengths (Refusal w) answer s = subst Lengths (sym s.1) (record {
+opened_lengths (Err w) answer s = subst Lengths (sym s.1) (record {
   ticket_long = length-replicate {A = ℕ} 1315 0;
   settlement_long = length-replicate {A = ℕ} 771 0;
   growers_long = refl;
   pilots_long = refl;
 })
-opened_lengths (Numbers xs) answer s = record {
+opened_lengths (Ok xs) answer s = record {
   ticket_long = ap length s.ticket_held ∙ length-sets (replicate {A = ℕ} 1315 0) 0 xs ∙ length-replicate {A = ℕ} 1315 0;
   settlement_long = s.market.settled.long;
   growers_long = s.market.free.growers_in.row.long;
   pilots_long = s.market.free.pilots_in.row.long;
 }
 
-pub open_small : (file lent after : List ℕ) (r : Reply) → OpenedIn file lent after r → Small r
+pub open_small : (file lent after : List ℕ) (r : Result ℕ Refusal) → OpenedIn file lent after r → Small r
 open_small file lent after r o =
     rw o.tells.reply (go (eqb o.answer.refusal 0) o.answer.refusal (numbers_in o.answer.market)
     (numbers_long _ (opened_lengths (unpacked file) o.answer o.opened)))
   where
-    go : (b : Bool) (w : ℕ) (xs : List ℕ) → length xs ≡ market_length → Small (reply (length lent) (cond b (Numbers xs) (Refusal w)))
-    go true w xs long = reply_small (length lent) (Numbers xs) (λ ys e. let d : xs ≡ ys = cc in omega (arith, long, ap length d))
+    go : (b : Bool) (w : ℕ) (xs : List ℕ) → length xs ≡ market_length → Small (reply (length lent) (cond b (Ok xs) (Err w)))
+    go true w xs long = reply_small (length lent) (Ok xs) (λ ys e. let d : xs ≡ ys = cc in omega (arith, long, ap length d))
     go false w xs long = tt
 
 -- Calls answer the length of a market, or a refusal.
-pub call_small : (calls lent after : List ℕ) (r : Reply) → CalledIn calls lent after r → Small r
+pub call_small : (calls lent after : List ℕ) (r : Result ℕ Refusal) → CalledIn calls lent after r → Small r
 call_small calls lent after r c = ⊎_elim
     (λ h. rw (c.short h).0.reply tt)
     (λ h. let d = c.done h in rw d.tells.reply (go (eqb d.answer.refusal 0) d.answer.refusal))
     (lt_or_le (length lent) market_length)
   where
-    go : (b : Bool) (w : ℕ) → Small (cond b (Reply.Done market_length) (Reply.Refused w))
+    go : (b : Bool) (w : ℕ) → Small (cond b (Ok market_length) (Err w))
     go true w = omega arith
     go false w = tt
 
 -- The numbers of a settlement are at most 771, of two bytes each.
-file_short : (xs s : List ℕ) → length xs ≤ 771 → file_of xs ≡ Numbers s → length s < 65536
+file_short : (xs s : List ℕ) → length xs ≤ 771 → file_of xs ≡ Ok s → length s < 65536
 file_short xs s h e =
     let r = settlement-packed_read (growers_of xs) (pilots_of xs) (settlement_front xs) s e in
     let k = length-take (settlement_length (growers_of xs) (pilots_of xs)) xs in
@@ -72,7 +73,7 @@ file_short xs s h e =
       gives_short s (settlement_front xs) [] (form_accepts (settlement (growers_of xs) (pilots_of xs)) bytes s (settlement_front xs) r).1,
     )
 
-pub settlement_small : (list lent after : List ℕ) (r : Reply) → WrittenFrom list lent after r → Small r
+pub settlement_small : (list lent after : List ℕ) (r : Result ℕ Refusal) → WrittenFrom list lent after r → Small r
 settlement_small list lent after r w = ⊎_elim
     (λ h. rw (w.short h).0.reply tt)
     (λ h. rw (w.written h).0.reply (reply_small (length lent) (file_of (market_in list).settlement)

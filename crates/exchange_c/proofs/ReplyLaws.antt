@@ -1,5 +1,7 @@
 -- Every reply of the operations has a small count, so its number tells it: `unpack_told`, `pack_told`, `settle_told`, `sheet_told`.
 -- Assumes nothing.
+use Rattle.std.specs.Prelude.{Result, Ok, Err}
+use Rattle.checks.specs.declared.refusals.Refusal.{Refusal}
 use mathlib.Core.Path.{◌≡◌, refl, sym, ap, ◌∙◌}
 use mathlib.Core.Bool.{Bool, true, false, cond}
 use mathlib.Core.Logic.{⊎_elim}
@@ -14,10 +16,9 @@ use lib.ListN.{length, take}
 use lib.Seq.{length-take-le}
 use Rattle.grid.proofs.Cases.{never, lt_or_le}
 use Rattle.numbers.proofs.Products.{prod_small}
-use Rattle.reader.specs.declared.Reply.{Reply}
 use Rattle.checks.specs.Refusals.{no_room}
 use Rattle.groups.specs.Groups.{Read, Number, Ends, TooLong, Padded, raise, read_from, groups, bytes, pack}
-use Rattle.reader.specs.Walk.{Outcome, Refusal, Numbers, read_head, form}
+use Rattle.reader.specs.Walk.{Outcome, read_head, form}
 use Rattle.documents.specs.Walk.{Gives}
 use Rattle.documents.specs.Layout.{ticket, settlement}
 use Rattle.reader.specs.Answer.{unpacked, packed, packed_as, settlement_read, reply}
@@ -32,20 +33,20 @@ use Rattle.sheets.proofs.PrintLaws.{sheet_short, room_in_page}
 use Rattle.exchange_c.specs.Replies.{reply_number, reply_of, Small, NumberOf}
 
 -- A small count fits the number.
-pub count_fits : (r : Reply) (count : ℕ) → r ≡ Reply.Done count → Small r → Fits w32 count
-count_fits r count e h = let l : Small (Reply.Done count) = rw e at h in record { fits = omega arith }
+pub count_fits : (r : Result ℕ Refusal) (count : ℕ) → r ≡ Ok count → Small r → Fits w32 count
+count_fits r count e h = let l : Small (Ok count) = rw e at h in record { fits = omega arith }
 
 -- A small reply is told by its number.
-pub number_tells : (r : Reply) → Small r → reply_of (reply_number r) ≡ r
-number_tells (Reply.Refused why) h =
+pub number_tells : (r : Result ℕ Refusal) → Small r → reply_of (reply_number r) ≡ r
+number_tells (Err why) h =
     let e : 65536 + why - 65536 ≡ why = omega arith in rw (le-ltb (65536 + why) 65536 (omega arith), e)
-number_tells (Reply.Done count) h = rw (lt-ltb count 65536 h)
+number_tells (Ok count) h = rw (lt-ltb count 65536 h)
 
-pub reply_small : (room : ℕ) (o : Outcome) → ((xs : List ℕ) → o ≡ Numbers xs → length xs < 65536) → Small (reply room o)
-reply_small room (Refusal w) h = tt
-reply_small room (Numbers xs) h = go (leb (length xs) room)
+pub reply_small : (room : ℕ) (o : Outcome) → ((xs : List ℕ) → o ≡ Ok xs → length xs < 65536) → Small (reply room o)
+reply_small room (Err w) h = tt
+reply_small room (Ok xs) h = go (leb (length xs) room)
   where
-    go : (b : Bool) → Small (cond b (Reply.Done (length xs)) (Reply.Refused no_room))
+    go : (b : Bool) → Small (cond b (Ok (length xs)) (Err no_room))
     go true = h xs refl
     go false = tt
 
@@ -54,9 +55,9 @@ pub unpack_small : (room : ℕ) (s : List ℕ) → Small (reply room (unpacked s
 unpack_small room s = reply_small room (unpacked s) (λ xs e. omega (arith, (unpacked_shape s xs e).few))
 
 -- It has at most 2,083 bytes.
-packed_short : (o : Outcome) (list s : List ℕ) → form ticket read_head list ≡ o → packed_as o ≡ Numbers s → length s ≤ 2083
-packed_short (Refusal w) list s f e = never cc
-packed_short (Numbers xs) list s f e =
+packed_short : (o : Outcome) (list s : List ℕ) → form ticket read_head list ≡ o → packed_as o ≡ Ok s → length s ≤ 2083
+packed_short (Err w) list s f e = never cc
+packed_short (Ok xs) list s f e =
     let d : s ≡ pack xs = cc in omega (arith, ap length d, (shape xs (form_accepts ticket read_head list xs f).0).short)
 
 pub pack_small : (room : ℕ) (list : List ℕ) → Small (reply room (packed list))
@@ -90,7 +91,7 @@ gives_short s [] rest g = omega (arith, ap length g)
 gives_short s (x ∷ xs) rest g = omega (arith, read_short groups 0 s x g.0 g.1, gives_short g.0 xs rest g.2)
 
 -- So a settlement has at most 1,542 bytes.
-pub settlement_short : (n m : ℕ) (s xs : List ℕ) → n ≤ 16 → m ≤ 16 → settlement_read n m s ≡ Numbers xs → length s ≤ 1542
+pub settlement_short : (n m : ℕ) (s xs : List ℕ) → n ≤ 16 → m ≤ 16 → settlement_read n m s ≡ Ok xs → length s ≤ 1542
 settlement_short n m s xs hn hm e =
     omega (
       arith,
@@ -99,7 +100,7 @@ settlement_short n m s xs hn hm e =
       prod_small n m hn hm,
     )
 
-settled_short : (t xs lent after : List ℕ) (count : ℕ) → unpacked t ≡ Numbers xs → length after ≡ length lent → SettledIn t xs lent
+settled_short : (t xs lent after : List ℕ) (count : ℕ) → unpacked t ≡ Ok xs → length after ≡ length lent → SettledIn t xs lent
     after count →
     count ≤ 1542
 settled_short t xs lent after count e same s =
@@ -111,20 +112,20 @@ settled_short t xs lent after count e same s =
     )
 
 -- A settlement is short whatever buffer was lent.
-pub settle_small : (t lent after : List ℕ) (r : Reply) → length after ≡ length lent → Settled t lent after r → Small r
+pub settle_small : (t lent after : List ℕ) (r : Result ℕ Refusal) → length after ≡ length lent → Settled t lent after r → Small r
 settle_small t lent after r same s = go (unpacked t) refl s
   where
-    answers : (xs : List ℕ) → unpacked t ≡ Numbers xs → Answers t xs lent after r → Small r
+    answers : (xs : List ℕ) → unpacked t ≡ Ok xs → Answers t xs lent after r → Small r
     answers xs e a = ⊎_elim
         (λ h. rw (a.short h).0.reply tt)
         (λ h. let d = a.settled h in rw d.1.reply (omega (arith, settled_short t xs lent after d.0 e same d.2)))
         (lt_or_le (length lent) (room_for xs))
 
     go : (o : Outcome) → unpacked t ≡ o → SettledAs t o lent after r → Small r
-    go (Refusal w) e s = rw s.0.reply tt
-    go (Numbers xs) e s = answers xs e s
+    go (Err w) e s = rw s.0.reply tt
+    go (Ok xs) e s = answers xs e s
 
-pub sheet_small : (t lent after : List ℕ) (r : Reply) → Sheeted (unpacked t) lent after r → Small r
+pub sheet_small : (t lent after : List ℕ) (r : Result ℕ Refusal) → Sheeted (unpacked t) lent after r → Small r
 sheet_small t lent after r s = ⊎_elim
     (λ h. rw (s.short h).0.reply tt)
     (λ h. let d = s.printed h in

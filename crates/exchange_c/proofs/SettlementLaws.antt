@@ -1,5 +1,6 @@
 -- The settlement of a ticket is short, so that the number that C gets tells the reply: `read_told`, `write_told`.
 -- Assumes nothing.
+use Rattle.std.specs.Prelude.{Ok, Err}
 use mathlib.Core.Path.{◌≡◌, refl}
 use mathlib.Core.Bool.{Bool, true, false, cond}
 use mathlib.Core.List.{List}
@@ -10,7 +11,7 @@ use lib.Dec.{leb}
 use lib.ListN.{length}
 use Rattle.grid.proofs.EveryLaws.{both_hold}
 use Rattle.checks.specs.Refusals.{settlement_refusals}
-use Rattle.reader.specs.Walk.{Outcome, Refusal, Numbers}
+use Rattle.reader.specs.Walk.{Outcome}
 use Rattle.reader.specs.Answer.{settlement_read, settlement_packed, reply}
 use Rattle.reader.proofs.Facts.{settlement_shape, settlement_few, settlement-packed_read}
 use Rattle.exchange_c.specs.Replies.{reply_number, reply_of, Small}
@@ -18,11 +19,11 @@ use Rattle.exchange_c.specs.Settlements.{in_ticket, of_ticket}
 use Rattle.exchange_c.proofs.ReplyLaws.{number_tells, reply_small, settlement_short}
 
 -- what has a small count for 16 growers and pilots at most, has one for any
-of_ticket_small : (room n m : ℕ) (o : Outcome) → (n ≤ 16 → m ≤ 16 → (xs : List ℕ) → o ≡ Numbers xs → length xs < 65536) →
+of_ticket_small : (room n m : ℕ) (o : Outcome) → (n ≤ 16 → m ≤ 16 → (xs : List ℕ) → o ≡ Ok xs → length xs < 65536) →
     Small (reply room (of_ticket n m o))
 of_ticket_small room n m o h = go (in_ticket n m) refl
   where
-    go : (b : Bool) → in_ticket n m ≡ b → Small (reply room (cond b o (Refusal settlement_refusals.parties)))
+    go : (b : Bool) → in_ticket n m ≡ b → Small (reply room (cond b o (Err settlement_refusals.parties)))
     go true e =
         let both = both_hold (leb n 16) (leb m 16) e in
         reply_small room o (h (leb-true n 16 both.0) (leb-true m 16 both.1))

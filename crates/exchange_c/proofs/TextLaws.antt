@@ -1,6 +1,7 @@
 -- What C asks the text of: every text is short, so that the number that C gets tells the reply, and a number of more than a byte has the
 -- text of 0.
 -- Assumes nothing.
+use Rattle.std.specs.Prelude.{Ok}
 use mathlib.Core.Path.{◌≡◌, refl, sym, ap}
 use mathlib.Core.Bool.{cond}
 use mathlib.Core.Logic.{⊎_elim}
@@ -10,7 +11,6 @@ use borrow.Author.Tests.{lt-ltb, le-ltb}
 use lib.Dec.{ltb}
 use lib.ListN.{length, get_or-eq_default}
 use Rattle.grid.proofs.Cases.{lt_or_le}
-use Rattle.reader.specs.Walk.{Numbers}
 use Rattle.reader.specs.Answer.{reply}
 use Rattle.texts.specs.declared.Meaning.{Meaning}
 use Rattle.texts.specs.Meanings.{refusal_texts, verdict_texts, telling_of}
@@ -33,11 +33,11 @@ byte_told what number = ⊎_elim
     (λ h. rw (le-ltb number 256 h) (sym (untold what number h)))
     (lt_or_le number 256)
 
-pub text_small : (room : ℕ) (what : Meaning) (number : ℕ) → Small (reply room (Numbers (telling_of what number)))
+pub text_small : (room : ℕ) (what : Meaning) (number : ℕ) → Small (reply room (Ok (telling_of what number)))
 text_small room what number =
-    reply_small room (Numbers (telling_of what number)) (λ xs e. let d : xs ≡ telling_of what number = cc in
+    reply_small room (Ok (telling_of what number)) (λ xs e. let d : xs ≡ telling_of what number = cc in
     omega (arith, ap length d, text_fits what number))
 
 pub text_told : (room : ℕ) (what : Meaning) (number : ℕ) →
-    reply_of (reply_number (reply room (Numbers (telling_of what number)))) ≡ reply room (Numbers (telling_of what number))
-text_told room what number = number_tells (reply room (Numbers (telling_of what number))) (text_small room what number)
+    reply_of (reply_number (reply room (Ok (telling_of what number)))) ≡ reply room (Ok (telling_of what number))
+text_told room what number = number_tells (reply room (Ok (telling_of what number))) (text_small room what number)

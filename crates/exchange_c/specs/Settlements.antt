@@ -1,8 +1,9 @@
 -- Settlements by the growers and pilots that C names, which are any two numbers.
 -- Assumes nothing.
+use Rattle.std.specs.Prelude.{Err}
 use Rattle.std.specs.Prelude.{ℕ, Bool, cond, ◌&&◌, leb}
 use Rattle.checks.specs.Refusals.{settlement_refusals}
-use Rattle.reader.specs.Walk.{Outcome, Refusal}
+use Rattle.reader.specs.Walk.{Outcome}
 
 -- No ticket has more than 16 growers or pilots.
 abbrev pub in_ticket : ℕ → ℕ → Bool
@@ -10,4 +11,4 @@ in_ticket n m = leb n 16 && leb m 16
 
 -- Of so many there is no settlement, whatever is read; so no count is taken for a refusal.
 abbrev pub of_ticket : ℕ → ℕ → Outcome → Outcome
-of_ticket n m o = cond (in_ticket n m) o (Refusal settlement_refusals.parties)
+of_ticket n m o = cond (in_ticket n m) o (Err settlement_refusals.parties)

@@ -1,6 +1,7 @@
 -- The worth that marking gives. Where the ticket has no tariff deals and the verdict is sound, it is the settlement's, and no feasible
 -- settlement of the ticket is worth more; elsewhere it is 0.
 -- Assumes nothing.
+use Rattle.std.specs.Prelude.{Ok}
 use Prim.Native.Nat.{ℕ, ◌≤◌, ◌<◌}
 use mathlib.Core.Path.{◌≡◌, refl, sym, ap, ◌∙◌}
 use mathlib.Core.Logic.{⊎_elim}
@@ -10,7 +11,6 @@ use Rattle.grid.proofs.Cases.{eq_or_ne}
 use Rattle.market.specs.Market.{Settlement, Feasible, Sound}
 use Rattle.market.specs.Totals.{NoTariffDeals, total_worth, promised_worth}
 use Rattle.market.proofs.PromisedWorth.{promised_without_tariff, promised_with_tariff, promised_best, same-worth}
-use Rattle.reader.specs.Walk.{Numbers}
 use Rattle.reader.specs.Answer.{unpacked, settlement_read}
 use Rattle.tables.specs.View.{growers_of, pilots_of, ticket_of, settlement_of}
 use Rattle.verdicts.specs.declared.Verdict.{Verdict}
@@ -35,14 +35,14 @@ worth_only_if_sound (Idle i j d count) unsound = refl
 worth_only_if_sound (Blocks i j d count) unsound = refl
 
 -- A ticket that passes its checks.
-module _ (ticket xs : List ℕ) (passes : unpacked ticket ≡ Numbers xs) where
+module _ (ticket xs : List ℕ) (passes : unpacked ticket ≡ Ok xs) where
   -- what stands in a settlement file that was marked
   abbrev Reads : List ℕ → List ℕ → Type 0
-  Reads settlement ys = settlement_read (growers_of xs) (pilots_of xs) settlement ≡ Numbers ys
+  Reads settlement ys = settlement_read (growers_of xs) (pilots_of xs) settlement ≡ Ok ys
 
   -- the numbers of the ticket's file are those that were read
   sound_numbers : (settlement : List ℕ) (f : SoundFiles ticket settlement) → f.numbers ≡ xs
-  sound_numbers settlement f = let e : Numbers f.numbers ≡ Numbers xs = sym f.is_ticket ∙ passes in cc
+  sound_numbers settlement f = let e : Ok f.numbers ≡ Ok xs = sym f.is_ticket ∙ passes in cc
 
   -- a settlement that marking finds sound
   record SoundIn (settlement : List ℕ) : Type 0 where
@@ -78,7 +78,7 @@ module _ (ticket xs : List ℕ) (passes : unpacked ticket ≡ Numbers xs) where
         verdict_worth (marked ticket settlement) ≡ total_worth (ticket_of xs) (settlement_of ys).hours
     worth_of-marked ys reads =
         let s = sound_in settlement sound in
-        let e : Numbers s.answer ≡ Numbers ys = sym s.reads ∙ reads in
+        let e : Ok s.answer ≡ Ok ys = sym s.reads ∙ reads in
         let same : s.answer ≡ ys = cc in
         s.worth ∙ promised_without_tariff (ticket_of xs) none (settlement_of s.answer).hours
         ∙ ap (λ (zs : List ℕ). total_worth (ticket_of xs) (settlement_of zs).hours) same

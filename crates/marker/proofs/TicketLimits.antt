@@ -1,5 +1,6 @@
 -- The limits of a ticket that bound its settlements.
 -- Assumes nothing.
+use Rattle.std.specs.Prelude.{Ok}
 use Prim.Native.Nat.{ℕ, ◌+◌, ◌*◌, ◌≤◌, ◌<◌}
 use mathlib.Core.Path.{◌≡◌, ap}
 use mathlib.Core.List.{List}
@@ -7,7 +8,6 @@ use native.Mathlib.Nat.{add-zero}
 use native.Mathlib.Omega.{arith}
 use lib.ListN.{get_or}
 use Rattle.market.specs.Market.{Ticket}
-use Rattle.reader.specs.Walk.{Numbers}
 use Rattle.reader.specs.Answer.{unpacked}
 use Rattle.reader.proofs.Facts.{unpacked_shape, unpacked_deal, DealAt}
 use Rattle.tables.specs.View.{growers_of, pilots_of, ticket_of}
@@ -23,7 +23,7 @@ pub record Limits (t : Ticket) : Type 0 where
   pub joint_gain : (i j : ℕ) → i < t.growers → j < t.pilots → t.joint_gain i j ≤ 500
 
 -- a ticket that passes its checks keeps them
-module _ (bytes xs : List ℕ) (is : unpacked bytes ≡ Numbers xs) where
+module _ (bytes xs : List ℕ) (is : unpacked bytes ≡ Ok xs) where
   deal : (i j : ℕ) → i < growers_of xs → j < pilots_of xs → DealAt xs (3 + growers_of xs + pilots_of xs + 5 * (i * pilots_of xs + j))
   deal = unpacked_deal bytes xs is
 

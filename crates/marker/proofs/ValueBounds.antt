@@ -1,5 +1,7 @@
 -- The values of every verdict on files are small: `marked_bounded`, `worth_bounded`.
 -- Assumes nothing.
+use Rattle.checks.specs.declared.refusals.Refusal.{Refusal}
+use Rattle.std.specs.Prelude.{Ok, Err}
 use Prim.Native.Nat.{ℕ, ◌+◌, ◌*◌, ◌/◌, ◌%◌, ◌≤◌, ◌<◌}
 use mathlib.Core.Path.{◌≡◌, refl, ap}
 use mathlib.Core.Bool.{Bool, true, false, cond}
@@ -20,7 +22,7 @@ use Rattle.market.specs.Market.{Ticket, Settlement, Feasible}
 use Rattle.market.specs.Totals.{gain_total, promised_worth}
 use Rattle.market.proofs.BestTotal.{worth_is_gain}
 use Rattle.market.proofs.PromisedWorth.{promised_at_most}
-use Rattle.reader.specs.Walk.{Outcome, Refusal, Numbers}
+use Rattle.reader.specs.Walk.{Outcome}
 use Rattle.reader.specs.Answer.{unpacked, settlement_read}
 use Rattle.tables.specs.View.{growers_of, pilots_of, ticket_of, settlement_of}
 use Rattle.verdicts.specs.declared.Verdict.{Verdict}
@@ -47,7 +49,7 @@ walk_bounded test k found after here later =
     let p = first test k in
     ⊎_elim (λ l. rw (lt-ltb p k l) (here p l)) (λ l. rw (le-ltb p k l) later) (lt_or_le p k)
 
-refused_bounded : (why : ℕ) → BoundedOf (Refused why)
+refused_bounded : (why : Refusal) → BoundedOf (Refused why)
 refused_bounded why = record { verdict = omega arith; grower = omega arith; pilot = omega arith; count = omega arith }
 
 module _ (t : Ticket) (x : Settlement) (few_growers : t.growers ≤ 16) (few_pilots : t.pilots ≤ 16) where
@@ -90,12 +92,12 @@ module _ (t : Ticket) (x : Settlement) (few_growers : t.growers ≤ 16) (few_pil
       (hours_bounded (promised_worth t x.hours))
 
 settlement_bounded : (xs : List ℕ) (o : Outcome) → growers_of xs ≤ 16 → pilots_of xs ≤ 16 → BoundedOf (settlement_marked xs o)
-settlement_bounded xs (Refusal w) n m = refused_bounded w
-settlement_bounded xs (Numbers ys) n m = judged_bounded (ticket_of xs) (settlement_of ys) n m
+settlement_bounded xs (Err w) n m = refused_bounded w
+settlement_bounded xs (Ok ys) n m = judged_bounded (ticket_of xs) (settlement_of ys) n m
 
 ticket_bounded : (t s : List ℕ) (o : Outcome) → unpacked t ≡ o → BoundedOf (ticket_marked o s)
-ticket_bounded t s (Refusal w) e = refused_bounded w
-ticket_bounded t s (Numbers xs) e =
+ticket_bounded t s (Err w) e = refused_bounded w
+ticket_bounded t s (Ok xs) e =
     let f = few_parties t xs e in settlement_bounded xs (settlement_read (growers_of xs) (pilots_of xs) s) f.0 f.1
 
 pub marked_bounded : (t s : List ℕ) → Bounded (marked_values t s)

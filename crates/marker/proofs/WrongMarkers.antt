@@ -1,5 +1,6 @@
 -- What the contract of `mark` rules out, in one: markers that pass all, fault all or invent the count, and the paper's four traps.
 -- Assumes nothing.
+use Rattle.std.specs.Prelude.{Ok, Err}
 use Prim.Native.Nat.{ℕ, ◌≤◌}
 use mathlib.Core.Path.{◌≡◌, refl, sym, ap, ◌∙◌}
 use mathlib.Core.List.{List, [], ◌∷◌}
@@ -7,7 +8,7 @@ use native.Mathlib.Omega.{arith}
 use Rattle.grid.specs.First.{first}
 use Rattle.grid.specs.Sum.{sum}
 use Rattle.groups.specs.Groups.{read_from}
-use Rattle.reader.specs.Walk.{Outcome, Refusal, Numbers, walk, form}
+use Rattle.reader.specs.Walk.{Outcome, walk, form}
 use Rattle.reader.specs.Answer.{unpacked, settlement_read}
 use Rattle.tables.specs.View.{growers_of, pilots_of}
 use Rattle.verdicts.specs.declared.Values.{Values}
@@ -58,12 +59,12 @@ right_rules_lem : Meets (marked_by right)
 right_rules_lem ticket settlement = of_ticket_lem (unpacked ticket)
   where
     of_settlement : (xs : List ℕ) (o : Outcome) → settlement_marked_by right xs o ≡ settlement_marked xs o
-    of_settlement xs (Refusal w) = refl
-    of_settlement xs (Numbers ys) = refl
+    of_settlement xs (Err w) = refl
+    of_settlement xs (Ok ys) = refl
 
     of_ticket_lem : (o : Outcome) → ticket_marked_by right o settlement ≡ ticket_marked o settlement
-    of_ticket_lem (Refusal w) = refl
-    of_ticket_lem (Numbers xs) = of_settlement xs (settlement_read (growers_of xs) (pilots_of xs) settlement)
+    of_ticket_lem (Err w) = refl
+    of_ticket_lem (Ok xs) = of_settlement xs (settlement_read (growers_of xs) (pilots_of xs) settlement)
 
 module _ (f : Marker) (meets : Meets f) where
   -- its number and count are those of marking

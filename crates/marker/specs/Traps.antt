@@ -1,10 +1,11 @@
 -- The paper's traps for the marker: marking by rules of which a trap changes one. Only proofs/WrongMarkers.antt uses this.
 -- Everywhere i is a grower, j a pilot, d and e deals.
 -- Assumes nothing.
+use Rattle.std.specs.Prelude.{Ok, Err}
 use Rattle.std.specs.Prelude.{None, Option, Some}
 use Rattle.std.specs.Prelude.{ℕ, ◌+◌, ◌*◌, Bool, false, cond, ◌&&◌, ◌||◌, List, ltb, leb, eqb}
 use Rattle.grid.specs.First.{by_place}
-use Rattle.reader.specs.Walk.{Outcome, Refusal, Numbers}
+use Rattle.reader.specs.Walk.{Outcome}
 use Rattle.reader.specs.Answer.{unpacked, settlement_read}
 use Rattle.market.specs.declared.Deal.{Deal}
 use Rattle.market.specs.declared.Deal.TheVariants.{Tariff, Free}
@@ -91,12 +92,12 @@ module _ (r : Rules) where
         (Sound (2 * pairs t) (promised_worth t x.hours)))))
 
   abbrev pub settlement_marked_by : List ℕ → Outcome → Verdict
-  settlement_marked_by xs (Refusal w) = Refused w
-  settlement_marked_by xs (Numbers ys) = judged_by (ticket_of xs) (settlement_of ys)
+  settlement_marked_by xs (Err w) = Refused w
+  settlement_marked_by xs (Ok ys) = judged_by (ticket_of xs) (settlement_of ys)
 
   abbrev pub ticket_marked_by : Outcome → List ℕ → Verdict
-  ticket_marked_by (Refusal w) settlement = Refused w
-  ticket_marked_by (Numbers xs) settlement = settlement_marked_by xs (settlement_read (growers_of xs) (pilots_of xs) settlement)
+  ticket_marked_by (Err w) settlement = Refused w
+  ticket_marked_by (Ok xs) settlement = settlement_marked_by xs (settlement_read (growers_of xs) (pilots_of xs) settlement)
 
   abbrev pub marked_by : List ℕ → List ℕ → Verdict
   marked_by ticket settlement = ticket_marked_by (unpacked ticket) settlement

@@ -13,7 +13,6 @@ mod pair_faults;
 mod parties;
 
 use crate::judging::judge;
-use reader::Reply;
 use verdicts::Verdict;
 
 // A party: his hours over all deals, his own hours, and those of his own in no deal; with each partner his hours by the tariff and in the
@@ -40,8 +39,8 @@ fn mark_against(ticket: &[u16], settlement: &[u8]) -> Verdict
     let mut numbers = numbers::settlement_list();
     let reply = reader::read_settlement(settlement, growers, pilots, &mut numbers);
     match reply {
-        Reply::Refused { why } => Verdict::Refused { why },
-        Reply::Done { count } => judge(ticket, numbers::front(&numbers, count)),
+        Err(why) => Verdict::Refused { why },
+        Ok(count) => judge(ticket, numbers::front(&numbers, count)),
     }
 }
 
@@ -53,7 +52,7 @@ pub fn mark(ticket: &[u8], settlement: &[u8]) -> Verdict
     let mut numbers = numbers::ticket_list();
     let reply = reader::unpack(ticket, &mut numbers);
     match reply {
-        Reply::Refused { why } => Verdict::Refused { why },
-        Reply::Done { count } => mark_against(numbers::front(&numbers, count), settlement),
+        Err(why) => Verdict::Refused { why },
+        Ok(count) => mark_against(numbers::front(&numbers, count), settlement),
     }
 }

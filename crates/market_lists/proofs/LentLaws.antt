@@ -1,5 +1,7 @@
 -- Lists written over lists, and what opening and calls leave in them.
 -- Assumes nothing.
+use Rattle.std.specs.Prelude.{Result, Ok, Err}
+use Rattle.checks.specs.declared.refusals.Refusal.{Refusal}
 use Prim.Native.Nat.{ℕ, ◌+◌, ◌≤◌, ◌<◌}
 use mathlib.Core.Path.{◌≡◌, refl, sym, subst, ap, ◌∙◌}
 use mathlib.Core.List.{List, ◌++◌, append-nil}
@@ -11,8 +13,6 @@ use lib.ListN.{length, length-append, drop, drop_of_length-le, length-drop}
 use lib.Seq.{sets, length-take-le}
 use Rattle.ascii.proofs.PageWriting.{sets_append}
 use Rattle.checks.specs.Refusals.{no_room}
-use Rattle.reader.specs.declared.Reply.{Reply}
-use Rattle.reader.specs.Walk.{Refusal, Numbers}
 use Rattle.reader.specs.Values.{Replied}
 use Rattle.reader.specs.Answer.{settlement_packed, Tells, kept}
 use Rattle.tables.specs.View.{growers_of, pilots_of, settlement_front}
@@ -65,35 +65,35 @@ next_written list mid after xs ys from at e f g = g ∙ rw (f, e) (sets_append l
 
 -- What opening answers and leaves.
 module _ (file lent : List ℕ) (answer : Answer) (o : Opened file answer) where
-  pub open_refused : 0 < answer.refusal → OpenedIn file lent lent (Reply.Refused answer.refusal)
+  pub open_refused : 0 < answer.refusal → OpenedIn file lent lent (Err answer.refusal)
   open_refused h =
-      let f : outcome_of answer ≡ Refusal answer.refusal = rw (ne_eqb answer.refusal 0 (λ e. omega (arith, e))) in
+      let f : outcome_of answer ≡ Err answer.refusal = rw (ne_eqb answer.refusal 0 (λ e. omega (arith, e))) in
       record { answer = answer; opened = o; tells = rw f (refuses _ _ refl); left = rw f }
 
   module _ (accepted : answer.refusal ≡ 0) (long : length (numbers_in answer.market) ≡ market_length) where
-    numbers : outcome_of answer ≡ Numbers (numbers_in answer.market)
+    numbers : outcome_of answer ≡ Ok (numbers_in answer.market)
     numbers = rw (eq-eqb answer.refusal 0 accepted)
 
-    pub open_short : length lent < market_length → OpenedIn file lent lent (Reply.Refused no_room)
+    pub open_short : length lent < market_length → OpenedIn file lent lent (Err no_room)
     open_short h =
         let few : leb (length (numbers_in answer.market)) (length lent) ≡ false =
         lt-leb (length (numbers_in answer.market)) (length lent) (omega (arith, long)) in
         record { answer = answer; opened = o; tells = rw (numbers, few) (refuses _ _ refl); left = rw (numbers, few) }
 
     pub open_done : (after : List ℕ) → market_length ≤ length lent → after ≡ sets lent 0 (numbers_in answer.market) →
-        OpenedIn file lent after (Reply.Done market_length)
+        OpenedIn file lent after (Ok market_length)
     open_done after h e =
         let room : leb (length (numbers_in answer.market)) (length lent) ≡ true =
         le-leb (length (numbers_in answer.market)) (length lent) (omega (arith, long)) in
         record { answer = answer; opened = o; tells = rw (numbers, room, long) (counts _ _ refl); left = rw (numbers, room) e }
 
 -- What calls answer and leave.
-pub no_market : (calls lent : List ℕ) → length lent < market_length → CalledIn calls lent lent (Reply.Refused no_room)
+pub no_market : (calls lent : List ℕ) → length lent < market_length → CalledIn calls lent lent (Err no_room)
 no_market calls lent h = record { short = λ _. (refuses _ no_room refl, refl); done = λ room. absurd (omega arith) }
 
 module _ (calls lent after : List ℕ) (answer : Answer) (room : market_length ≤ length lent) (m : Market) (held : m ≡ market_in lent)
     (d : Replayed m calls answer) (e : after ≡ sets lent 0 (numbers_in answer.market)) where
-  calls_done : (r : Reply) → Replied r (call_reply answer.refusal) (call_on_paper answer.refusal) → CalledIn calls lent after r
+  calls_done : (r : Result ℕ Refusal) → Replied r (call_reply answer.refusal) (call_on_paper answer.refusal) → CalledIn calls lent after r
   calls_done r t = record {
     short = λ h. absurd (omega arith);
     done = λ _. record {
@@ -104,17 +104,17 @@ module _ (calls lent after : List ℕ) (answer : Answer) (room : market_length �
     };
   }
 
-  pub some_refused : 0 < answer.refusal → CalledIn calls lent after (Reply.Refused answer.refusal)
+  pub some_refused : 0 < answer.refusal → CalledIn calls lent after (Err answer.refusal)
   some_refused h = calls_done _ (rw (ne_eqb answer.refusal 0 (λ z. omega (arith, z))) (refuses _ _ refl))
 
-  pub all_accepted : answer.refusal ≡ 0 → CalledIn calls lent after (Reply.Done market_length)
+  pub all_accepted : answer.refusal ≡ 0 → CalledIn calls lent after (Ok market_length)
   all_accepted z = calls_done _ (rw (eq-eqb answer.refusal 0 z) (counts _ _ refl))
 
 -- What writing the settlement answers and leaves.
-pub nothing_held : (list lent : List ℕ) → length list < market_length → WrittenFrom list lent lent (Reply.Refused no_room)
+pub nothing_held : (list lent : List ℕ) → length list < market_length → WrittenFrom list lent lent (Err no_room)
 nothing_held list lent h = record { short = λ _. (refuses _ no_room refl, refl); written = λ room. absurd (omega arith) }
 
-pub settlement_written : (list lent after front : List ℕ) (n m : ℕ) (r : Reply) → market_length ≤ length list →
+pub settlement_written : (list lent after front : List ℕ) (n m : ℕ) (r : Result ℕ Refusal) → market_length ≤ length list →
     let settlement = (market_in list).settlement in
     front ≡ settlement_front settlement → n ≡ growers_of settlement → m ≡ pilots_of settlement →
     Tells r (length lent) (settlement_packed n m front) → after ≡ kept lent (settlement_packed n m front) → WrittenFrom list lent after r

@@ -1,11 +1,12 @@
 -- Open markets in lent lists: the 1,315 places of a ticket's numbers, the 771 of a settlement's, and the free hours of 16 growers and of
 -- 16 pilots.
 -- Assumes nothing.
+use Rattle.std.specs.Prelude.{Result, Ok, Err}
+use Rattle.checks.specs.declared.refusals.Refusal.{Refusal}
 use Rattle.std.specs.Prelude.{ℕ, ◌≤◌, ◌<◌, cond, ◌≡◌, List, ◌++◌, eqb, length, take, drop}
 use Rattle.std.proofs.lemmas.List.Edits.{sets}
 use Rattle.checks.specs.Refusals.{no_room}
-use Rattle.reader.specs.declared.Reply.{Reply}
-use Rattle.reader.specs.Walk.{Outcome, Refusal, Numbers}
+use Rattle.reader.specs.Walk.{Outcome}
 use Rattle.reader.specs.Values.{Values, refused_with, done_with, Replied, Refuses}
 use Rattle.reader.specs.Answer.{settlement_packed, Tells, kept}
 use Rattle.tables.specs.View.{growers_of, pilots_of, settlement_front}
@@ -33,32 +34,32 @@ market_in list = record {
 
 -- What opening comes to: the refusal, or the numbers of the market.
 abbrev pub outcome_of : Answer → Outcome
-outcome_of answer = cond (eqb answer.refusal 0) (Numbers (numbers_in answer.market)) (Refusal answer.refusal)
+outcome_of answer = cond (eqb answer.refusal 0) (Ok (numbers_in answer.market)) (Err answer.refusal)
 
 -- The market of some answer that opening may give: told, and left at the front of the list if that has room. Which settlement it holds is
 -- free.
-pub record OpenedIn (file lent after : List ℕ) (r : Reply) : Type 0 where
+pub record OpenedIn (file lent after : List ℕ) (r : Result ℕ Refusal) : Type 0 where
   pub answer : Answer
   pub opened : Opened file answer
   pub tells : Tells r (length lent) (outcome_of answer)
   pub left : after ≡ kept lent (outcome_of answer)
 
 -- The reply to calls that came to a refusal, or to none.
-abbrev pub call_reply : ℕ → Reply
-call_reply refusal = cond (eqb refusal 0) (Reply.Done market_length) (Reply.Refused refusal)
+abbrev pub call_reply : ℕ → Result ℕ Refusal
+call_reply refusal = cond (eqb refusal 0) (Ok market_length) (Err refusal)
 
 abbrev pub call_on_paper : ℕ → Values
 call_on_paper refusal = cond (eqb refusal 0) (done_with market_length) (refused_with refusal)
 
 -- The calls were done on the market at the front of the list, and the market after them stands there.
-pub record CallsDone (calls lent after : List ℕ) (r : Reply) : Type 0 where
+pub record CallsDone (calls lent after : List ℕ) (r : Result ℕ Refusal) : Type 0 where
   pub answer : Answer
   pub replayed : Replayed (market_in lent) calls answer
   pub tells : Replied r (call_reply answer.refusal) (call_on_paper answer.refusal)
   pub left : after ≡ sets lent 0 (numbers_in answer.market)
 
 -- A list that is too short holds no market, and is left as it was.
-pub record CalledIn (calls lent after : List ℕ) (r : Reply) : Type 0 where
+pub record CalledIn (calls lent after : List ℕ) (r : Result ℕ Refusal) : Type 0 where
   pub short : length lent < market_length → Refuses r no_room × (after ≡ lent)
   pub done : market_length ≤ length lent → CallsDone calls lent after r
 
@@ -67,7 +68,7 @@ pub record CalledIn (calls lent after : List ℕ) (r : Reply) : Type 0 where
 abbrev pub file_of : List ℕ → Outcome
 file_of settlement = settlement_packed (growers_of settlement) (pilots_of settlement) (settlement_front settlement)
 
-pub record WrittenFrom (list lent after : List ℕ) (r : Reply) : Type 0 where
+pub record WrittenFrom (list lent after : List ℕ) (r : Result ℕ Refusal) : Type 0 where
   pub short : length list < market_length → Refuses r no_room × (after ≡ lent)
   pub written : market_length ≤ length list → Tells r (length lent) (file_of (market_in list).settlement) ×
       (after ≡ kept lent (file_of (market_in list).settlement))

@@ -1,5 +1,6 @@
 -- The answers to calls that are refused and to those that are not, and to opening.
 -- Assumes nothing.
+use Rattle.std.specs.Prelude.{Ok, Err}
 use Prim.Native.Nat.{ℕ, ◌≤◌, ◌<◌}
 use mathlib.Core.Logic.{⊎_elim}
 use mathlib.Core.Path.{◌≡◌, sym, ap, ap₂, ◌∙◌}
@@ -9,7 +10,6 @@ use borrow.Author.Tests.{le-leb}
 use lib.ListN.{length, replicate}
 use lib.Seq.{sets}
 use Rattle.grid.proofs.Cases.{lt_or_le}
-use Rattle.reader.specs.declared.Reply.{Reply}
 use Rattle.reader.specs.Answer.{unpacked, reply, kept}
 use Rattle.reader.proofs.Facts.{unpacked_shape, reply_refused, reply_done}
 use Rattle.ticket_calls.specs.Calls.{Call, refusal_of, after}
@@ -62,14 +62,14 @@ same_market m m' e f g p =
 -- Opening, from what unpacking into a list of zeros answered and left.
 module _ (file zeros ticket : List ℕ) (e : zeros ≡ replicate 1315 0) (long : length zeros ≡ 1315)
     (left : ticket ≡ kept zeros (unpacked file)) where
-  pub opened_refused : (w : ℕ) (r : Answer) → Reply.Refused w ≡ reply (length zeros) (unpacked file) → r.refusal ≡ w →
+  pub opened_refused : (w : ℕ) (r : Answer) → Err w ≡ reply (length zeros) (unpacked file) → r.refusal ≡ w →
       r.market.ticket ≡ ticket → r.market.settlement ≡ replicate 771 0 → r.market.grower_free_hours ≡ replicate 16 0 →
       r.market.pilot_free_hours ≡ replicate 16 0 → Opened file r
   opened_refused w r told why same none growers pilots =
       let f = reply_refused (length zeros) (unpacked file) w (λ xs g. omega (arith, (unpacked_shape file xs g).few, long)) told in
       rw f (why, same_market r.market nobody (same ∙ left ∙ ap (kept zeros) f ∙ e) none growers pilots)
 
-  pub opened_done : (count : ℕ) (r : Answer) → Reply.Done count ≡ reply (length zeros) (unpacked file) →
+  pub opened_done : (count : ℕ) (r : Answer) → Ok count ≡ reply (length zeros) (unpacked file) →
       Settled ticket r → Opened file r
   opened_done count r told s =
       let d = reply_done (unpacked file) zeros count told in

@@ -1,5 +1,6 @@
 -- What holds of every open market: opened from a ticket it holds it, and every call keeps that.
 -- Assumes nothing.
+use Rattle.std.specs.Prelude.{Ok}
 use Prim.Native.Nat.{ℕ, min}
 use mathlib.Core.Logic.{⊎_elim}
 use mathlib.Core.Path.{◌≡◌, refl, sym, subst, ap, ◌∙◌}
@@ -13,7 +14,6 @@ use Rattle.market.specs.Market.{Ticket, Settlement, Sound}
 use Rattle.market.specs.Same.{SameSettlement}
 use Rattle.market.proofs.Same.{sound_same}
 use Rattle.market.proofs.Gains.{nothing_blocks_iff}
-use Rattle.reader.specs.Walk.{Numbers}
 use Rattle.reader.specs.Answer.{unpacked}
 use Rattle.reader.proofs.Facts.{settlement-packed_read}
 use Rattle.reader.proofs.TicketNumbers.{unpacked_passing, passing_packed, passing_unpacked}
@@ -53,7 +53,7 @@ reached_holding (c ∷ cs) xs market last h r =
     reached_holding cs (after c xs) r.0.market last (call_holding c xs market r.0 h r.1) r.2
 
 -- Opening.
-opened_holding : (file xs zeros : List ℕ) (r : Answer) → zeros ≡ replicate 1315 0 → unpacked file ≡ Numbers xs → Opened file r →
+opened_holding : (file xs zeros : List ℕ) (r : Answer) → zeros ≡ replicate 1315 0 → unpacked file ≡ Ok xs → Opened file r →
     Holding xs r.market
 opened_holding file xs zeros r z e opened =
     let o = rw e at opened in
@@ -120,7 +120,7 @@ module _ (xs : List ℕ) (market : Market) (h : Holding xs market) where
   }
 
 -- For every market that was opened from a ticket and every list of calls on it.
-pub always_holds : (file xs : List ℕ) (opened : Answer) (cs : List Call) (last : Market) → unpacked file ≡ Numbers xs → Opened file opened →
+pub always_holds : (file xs : List ℕ) (opened : Answer) (cs : List Call) (last : Market) → unpacked file ≡ Ok xs → Opened file opened →
     Reached opened.market cs last → Holds (after_all cs xs) last
 always_holds file xs opened cs last e o r =
     holding_holds (after_all cs xs) last (reached_holding cs xs opened.market last (opened_holding file xs _ opened refl e o) r)

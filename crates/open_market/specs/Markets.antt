@@ -1,10 +1,11 @@
 -- Open markets: what opening and calls answer and leave, and what holds of every market that is reached.
 -- Assumes nothing.
+use Rattle.std.specs.Prelude.{Ok, Err}
 use Rattle.std.specs.Prelude.{ℕ, ◌*◌, ◌<◌, ◌≡◌, List, [], ◌∷◌, ◌++◌, replicate}
 use Rattle.std.proofs.lemmas.List.Edits.{sets}
 use Rattle.checks.specs.Refusals.{first}
 use Rattle.market.specs.Totals.{promised_worth}
-use Rattle.reader.specs.Walk.{Outcome, Refusal, Numbers}
+use Rattle.reader.specs.Walk.{Outcome}
 use Rattle.reader.specs.Answer.{unpacked, packed, settlement_packed}
 use Rattle.tables.specs.View.{growers_of, pilots_of, ticket_of, first_sixteen, settlement_of, ticket_front, settlement_front}
 use Rattle.free_hours.specs.FreeHours.{AreFree}
@@ -40,8 +41,8 @@ pub record Settled (ticket : List ℕ) (r : Answer) : Type 0 where
 
 -- Opening: a ticket's refusal and the market of nobody, or the ticket's numbers with zeros after them, settled.
 abbrev pub OpenedAs : Outcome → Answer → Type 0
-OpenedAs (Refusal w) r = (r.refusal ≡ w) × (r.market ≡ nobody)
-OpenedAs (Numbers xs) r = Settled (sets (replicate 1315 0) 0 xs) r
+OpenedAs (Err w) r = (r.refusal ≡ w) × (r.market ≡ nobody)
+OpenedAs (Ok xs) r = Settled (sets (replicate 1315 0) 0 xs) r
 
 abbrev pub Opened : List ℕ → Answer → Type 0
 Opened file r = OpenedAs (unpacked file) r
@@ -79,17 +80,17 @@ pub record Holds (xs : List ℕ) (market : Market) : Type 0 where
   pub free : AreFree (ticket_of xs) (settlement_of (settlement_front market.settlement))
       market.grower_free_hours market.pilot_free_hours
   pub file : List ℕ
-  pub packs : packed xs ≡ Numbers file
-  pub unpacks : unpacked file ≡ Numbers xs
+  pub packs : packed xs ≡ Ok file
+  pub unpacks : unpacked file ≡ Ok xs
   pub answer : List ℕ
-  pub writes : settlement_packed (growers_of xs) (pilots_of xs) (settlement_front market.settlement) ≡ Numbers answer
+  pub writes : settlement_packed (growers_of xs) (pilots_of xs) (settlement_front market.settlement) ≡ Ok answer
   pub marks : marked file answer ≡ Verdict.Sound (2 * (growers_of xs * pilots_of xs))
       (promised_worth (ticket_of xs) (settlement_of (settlement_front market.settlement)).hours)
 
 -- Whatever was called since it was opened from a ticket, a market holds the ticket that these calls give.
 pub record Kept (market : Market) (cs : List Call) (last : Market) : Type 0 where
   pub reached : Reached market cs last
-  pub holds : (file xs : List ℕ) (opened : Answer) (before : List Call) → unpacked file ≡ Numbers xs → Opened file opened →
+  pub holds : (file xs : List ℕ) (opened : Answer) (before : List Call) → unpacked file ≡ Ok xs → Opened file opened →
       Reached opened.market before market → Holds (after_all (before ++ cs) xs) last
 
 -- A list of calls: the first refusal among them, and the market after them.

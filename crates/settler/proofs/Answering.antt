@@ -1,5 +1,7 @@
 -- The whole answer of settling, put together: a sound settlement's numbers, packed into the lent buffer.
 -- Assumes nothing.
+use Rattle.std.specs.Prelude.{Result, Ok, Err}
+use Rattle.checks.specs.declared.refusals.Refusal.{Refusal}
 use Prim.Native.Nat.{ℕ, ◌+◌, ◌*◌, ◌≤◌, ◌<◌}
 use mathlib.Core.Path.{◌≡◌, refl, ap, ◌∙◌}
 use mathlib.Core.List.{List, ◌++◌}
@@ -8,9 +10,7 @@ use native.Mathlib.Omega.{arith}
 use lib.ListN.{length, take, drop}
 use lib.Seq.{take_at, drop-append_seam}
 use Rattle.grid.proofs.Cases.{lt_or_le, never}
-use Rattle.reader.specs.declared.Reply.{Reply}
 use Rattle.checks.specs.Refusals.{no_room}
-use Rattle.reader.specs.Walk.{Numbers}
 use Rattle.reader.specs.Answer.{unpacked, settlement_read, settlement_packed, reply, kept}
 use Rattle.reader.proofs.Facts.{unpacked_shape, settlement-packed_read, reply-with_room, kept-with_room, reply_refused}
 use Rattle.reader.proofs.Telling.{refuses, counts}
@@ -19,7 +19,7 @@ use Rattle.marker.proofs.Marking.{sound_files_marked}
 use Rattle.settler.specs.Settled.{room_for, SettledIn, Answers, Settled}
 use Rattle.settler.specs.Numbers.{AnswersNumbers, SoundFront}
 
-module _ (xs list lent after : List ℕ) (r : Reply) (f : SoundFront xs list) (room : room_for xs ≤ length lent)
+module _ (xs list lent after : List ℕ) (r : Result ℕ Refusal) (f : SoundFront xs list) (room : room_for xs ≤ length lent)
     (answered : r ≡ reply (length lent) (settlement_packed (growers_of xs) (pilots_of xs) (settlement_front list)))
     (left : after ≡ kept lent (settlement_packed (growers_of xs) (pilots_of xs) (settlement_front list))) where
   fits : length f.bytes ≤ length lent
@@ -28,13 +28,13 @@ module _ (xs list lent after : List ℕ) (r : Reply) (f : SoundFront xs list) (r
   front : after ≡ f.bytes ++ drop (length f.bytes) lent
   front = left ∙ ap (kept lent) f.packs ∙ kept-with_room lent f.bytes fits
 
-  read : settlement_read (growers_of xs) (pilots_of xs) (take (length f.bytes) after) ≡ Numbers (settlement_front list)
+  read : settlement_read (growers_of xs) (pilots_of xs) (take (length f.bytes) after) ≡ Ok (settlement_front list)
   read =
       ap (λ (s : List ℕ). settlement_read (growers_of xs) (pilots_of xs) (take (length f.bytes) s)) front
       ∙ ap (settlement_read (growers_of xs) (pilots_of xs)) (take_at f.bytes (drop (length f.bytes) lent) (length f.bytes) refl)
       ∙ settlement-packed_read (growers_of xs) (pilots_of xs) (settlement_front list) f.bytes f.packs
 
-  settled_in : (ticket : List ℕ) → unpacked ticket ≡ Numbers xs → SettledIn ticket xs lent after (length f.bytes)
+  settled_in : (ticket : List ℕ) → unpacked ticket ≡ Ok xs → SettledIn ticket xs lent after (length f.bytes)
   settled_in ticket e = record {
     within = fits;
     numbers = settlement_front list;
@@ -56,7 +56,7 @@ module _ (xs list lent after : List ℕ) (r : Reply) (f : SoundFront xs list) (r
   }
 
 -- The same of what the code has read and cut: growers, pilots and pairs as numbers of their own, and the front of the list.
-pub written_answers : (xs list own lent after : List ℕ) (r : Reply) (growers pilots pairs : ℕ) → SoundFront xs list →
+pub written_answers : (xs list own lent after : List ℕ) (r : Result ℕ Refusal) (growers pilots pairs : ℕ) → SoundFront xs list →
     growers ≡ growers_of xs → pilots ≡ pilots_of xs → pairs ≡ growers * pilots → own ≡ settlement_front list →
     3 + 4 * pairs ≤ length lent → r ≡ reply (length lent) (settlement_packed growers pilots own) →
     after ≡ kept lent (settlement_packed growers pilots own) → AnswersNumbers xs lent after r
@@ -71,27 +71,27 @@ written_answers xs list own lent after r growers pilots pairs f eg ep e cut room
     same = rw (eg, ep, cut)
 
 pub room_answers : (xs lent : List ℕ) (growers pilots pairs : ℕ) → growers ≡ growers_of xs → pilots ≡ pilots_of xs →
-    pairs ≡ growers * pilots → length lent < 3 + 4 * pairs → AnswersNumbers xs lent lent (Reply.Refused no_room)
+    pairs ≡ growers * pilots → length lent < 3 + 4 * pairs → AnswersNumbers xs lent lent (Err no_room)
 room_answers xs lent growers pilots pairs eg ep e h ticket _ =
     let count : pairs ≡ growers_of xs * pilots_of xs = e ∙ rw (eg, ep) in
     record { short = λ _. (refuses _ no_room refl, refl); settled = λ l. absurd (omega (arith, count)) }
 
 -- From the ticket's bytes: what was refused, and what was unpacked.
-pub refused_settles : (s zeros lent : List ℕ) (w : ℕ) → length zeros ≡ 1315 → Reply.Refused w ≡ reply (length zeros) (unpacked s) →
-    Settled s lent lent (Reply.Refused w)
+pub refused_settles : (s zeros lent : List ℕ) (w : ℕ) → length zeros ≡ 1315 → Err w ≡ reply (length zeros) (unpacked s) →
+    Settled s lent lent (Err w)
 refused_settles s zeros lent w long e =
     rw (reply_refused (length zeros) (unpacked s) w (λ xs f. omega (arith, (unpacked_shape s xs f).few, long)) e) (refuses _ w refl, refl)
 
-pub answers_settle : (s list lent after : List ℕ) (r : Reply) → unpacked s ≡ Numbers list → Answers s list lent after r →
+pub answers_settle : (s list lent after : List ℕ) (r : Result ℕ Refusal) → unpacked s ≡ Ok list → Answers s list lent after r →
     Settled s lent after r
 answers_settle s list lent after r e a = rw e a
 
 -- What an answer to a ticket that passes its checks says: no refusal where there is room, and a length is that of a settlement.
-module _ (ticket xs lent after : List ℕ) (e : unpacked ticket ≡ Numbers xs) where
-  pub not_refused : (why : ℕ) → room_for xs ≤ length lent → ¬ Settled ticket lent after (Reply.Refused why)
+module _ (ticket xs lent after : List ℕ) (e : unpacked ticket ≡ Ok xs) where
+  pub not_refused : (why : ℕ) → room_for xs ≤ length lent → ¬ Settled ticket lent after (Err why)
   not_refused why room s = let a = rw e at s in let f = (a.settled room).1.reply in never cc
 
-  pub done_settled : (count : ℕ) → Settled ticket lent after (Reply.Done count) → SettledIn ticket xs lent after count
+  pub done_settled : (count : ℕ) → Settled ticket lent after (Ok count) → SettledIn ticket xs lent after count
   done_settled count s =
       let a = rw e at s in
       ⊎_elim

@@ -1,10 +1,11 @@
 -- What settling may answer on a ticket's bytes and a lent buffer: a refusal, and the buffer as it was; or the length of a sound
 -- settlement of the ticket, which stands at the buffer's front, and the rest as it was.
 -- Assumes nothing.
+use Rattle.std.specs.Prelude.{Result, Ok, Err}
+use Rattle.checks.specs.declared.refusals.Refusal.{Refusal}
 use Rattle.std.specs.Prelude.{ℕ, ◌+◌, ◌*◌, ◌≤◌, ◌<◌, ◌≡◌, List, length, take, drop}
-use Rattle.reader.specs.declared.Reply.{Reply}
 use Rattle.checks.specs.Refusals.{no_room}
-use Rattle.reader.specs.Walk.{Outcome, Refusal, Numbers}
+use Rattle.reader.specs.Walk.{Outcome}
 use Rattle.reader.specs.Values.{Refuses, Counts}
 use Rattle.reader.specs.Answer.{unpacked, settlement_read}
 use Rattle.market.specs.Market.{Sound, NobodyGains}
@@ -23,7 +24,7 @@ pub record SoundNumbers (xs numbers : List ℕ) : Type 0 where
 pub record SettledIn (ticket xs lent after : List ℕ) (count : ℕ) : Type 0 where
   pub within : count ≤ length lent
   pub numbers : List ℕ
-  pub file : settlement_read (growers_of xs) (pilots_of xs) (take count after) ≡ Numbers numbers
+  pub file : settlement_read (growers_of xs) (pilots_of xs) (take count after) ≡ Ok numbers
   pub good : SoundNumbers xs numbers
   -- marking finds it sound, having looked at all deals, and gives its worth
   pub marks : marked ticket (take count after) ≡
@@ -35,14 +36,14 @@ abbrev pub room_for : List ℕ → ℕ
 room_for xs = 3 + 4 * (growers_of xs * pilots_of xs)
 
 -- An answer to a ticket of the numbers xs: a lack of room exactly when the buffer is too short, else a sound settlement.
-pub record Answers (ticket xs lent after : List ℕ) (r : Reply) : Type 0 where
+pub record Answers (ticket xs lent after : List ℕ) (r : Result ℕ Refusal) : Type 0 where
   pub short : length lent < room_for xs → Refuses r no_room × (after ≡ lent)
   pub settled : room_for xs ≤ length lent → (count : ℕ) × Counts r count × SettledIn ticket xs lent after count
 
 -- An answer to a ticket's bytes: what unpacking refuses is refused with the same number.
-abbrev pub SettledAs : List ℕ → Outcome → List ℕ → List ℕ → Reply → Type 0
-SettledAs ticket (Refusal w) lent after r = Refuses r w × (after ≡ lent)
-SettledAs ticket (Numbers xs) lent after r = Answers ticket xs lent after r
+abbrev pub SettledAs : List ℕ → Outcome → List ℕ → List ℕ → Result ℕ Refusal → Type 0
+SettledAs ticket (Err w) lent after r = Refuses r w × (after ≡ lent)
+SettledAs ticket (Ok xs) lent after r = Answers ticket xs lent after r
 
-abbrev pub Settled : List ℕ → List ℕ → List ℕ → Reply → Type 0
+abbrev pub Settled : List ℕ → List ℕ → List ℕ → Result ℕ Refusal → Type 0
 Settled ticket lent after r = SettledAs ticket (unpacked ticket) lent after r

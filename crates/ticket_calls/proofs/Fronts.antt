@@ -113,7 +113,7 @@ module _ (l : List ℕ) where
       go true e =
           let f = both_hold (is_in g l) (is_in p l) e in
           rw (same_in g, same_in p, same-hours g f.0, same-hours p f.1)
-      go false e = sym (terms_of-nobody g p t front (rw (same_in g, same_in p) e)) ∙ terms_of-nobody g p t l e
+      go false e = terms_of-nobody g p t front (rw (same_in g, same_in p) e) ∙ sym (terms_of-nobody g p t l e)
 
   pub same_refusal : (c : Call) → refusal_of c front ≡ refusal_of c l
   same_refusal (SetHours p h) = rw (same_in p)

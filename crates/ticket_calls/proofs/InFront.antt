@@ -1,5 +1,8 @@
 -- A ticket that passes its checks stands in front of a list that has room for every ticket: written there, and after calls.
 -- Assumes nothing.
+use Rattle.std.specs.Prelude.{Ok, Err}
+use Rattle.checks.specs.declared.refusals.Refusal.{Refusal}
+use Rattle.checks.specs.Refusals.{Checked}
 use Prim.Native.Nat.{ℕ, ◌≤◌, ◌<◌}
 use mathlib.Core.Logic.{⊎_elim}
 use mathlib.Core.Path.{◌≡◌, refl, sym, subst, ap, ◌∙◌}
@@ -10,8 +13,6 @@ use lib.ListN.{get_or, take, drop, length, get_or-append}
 use lib.Seq.{sets, length-sets, take_at}
 use Rattle.grid.proofs.Cases.{eq_or_ne}
 use Rattle.numbers.proofs.Products.{prod_small}
-use Rattle.reader.specs.declared.Reply.{Reply}
-use Rattle.reader.specs.Walk.{Numbers}
 use Rattle.reader.specs.Answer.{unpacked, reply, kept}
 use Rattle.reader.proofs.Facts.{written_front, unpacked_shape, reply_done}
 use Rattle.reader.proofs.TicketNumbers.{Passing, unpacked_passing}
@@ -38,7 +39,7 @@ module _ (c : Call) (xs list : List ℕ) (here : InFront xs list) where
       ∙ changed-take (ticket_length (growers_of list) (pilots_of list)) (omega arith) c list
       ∙ ap (changed c) here.front
 
-  accepted : refusal_of c list ≡ 0 → InFront (after c xs) (after c list)
+  accepted : refusal_of c list ≡ Ok tt → InFront (after c xs) (after c list)
   accepted e =
       let t = after_accepted c list e in
       let a = after_accepted c xs (same_call ∙ e) in
@@ -48,10 +49,10 @@ module _ (c : Call) (xs list : List ℕ) (here : InFront xs list) where
         passing = subst Passing (sym a) (changed_passing c xs here.passing (same_call ∙ e));
       }
 
-  refused : (refusal_of c list ≡ 0 → ⊥) → InFront (after c xs) (after c list)
-  refused e =
-      let t = after_refused c list e in
-      let a = after_refused c xs (λ z. e (sym same_call ∙ z)) in
+  refused : (w : Refusal) → refusal_of c list ≡ Err w → InFront (after c xs) (after c list)
+  refused w e =
+      let t = after_refused c list w e in
+      let a = after_refused c xs w (same_call ∙ e) in
       record {
         long = ap length t ∙ here.long;
         front = ap ticket_front t ∙ here.front ∙ sym a;
@@ -59,7 +60,11 @@ module _ (c : Call) (xs list : List ℕ) (here : InFront xs list) where
       }
 
   pub after_in-front : InFront (after c xs) (after c list)
-  after_in-front = ⊎_elim accepted refused (eq_or_ne (refusal_of c list) 0)
+  after_in-front = go (refusal_of c list) refl
+    where
+      go : (r : Checked) → refusal_of c list ≡ r → InFront (after c xs) (after c list)
+      go (Ok _) e = accepted e
+      go (Err w) e = refused w e
 
 -- A ticket's numbers that were written to the front of such a list.
 module _ (xs zeros list : List ℕ) (w : Passing xs) (long : length zeros ≡ 1315) (e : list ≡ sets zeros 0 xs) where
@@ -86,8 +91,8 @@ module _ (xs zeros list : List ℕ) (w : Passing xs) (long : length zeros ≡ 13
 
 -- What unpacking leaves of a ticket in such a list.
 pub unpacked_in_front : (file zeros list : List ℕ) (count : ℕ) → length zeros ≡ 1315 →
-    Reply.Done count ≡ reply (length zeros) (unpacked file) → list ≡ kept zeros (unpacked file) →
-    (xs : List ℕ) × (unpacked file ≡ Numbers xs) × InFront xs list
+    Ok count ≡ reply (length zeros) (unpacked file) → list ≡ kept zeros (unpacked file) →
+    (xs : List ℕ) × (unpacked file ≡ Ok xs) × InFront xs list
 unpacked_in_front file zeros list count long told left =
     let d = reply_done (unpacked file) zeros count told in
     let w = unpacked_passing file d.0 d.1 in

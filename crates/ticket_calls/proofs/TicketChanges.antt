@@ -1,5 +1,6 @@
 -- What an accepted call leaves of a ticket passes the ticket's checks.
 -- Assumes nothing.
+use Rattle.std.specs.Prelude.{Ok}
 use Prim.Native.Nat.{ℕ, ◌+◌, ◌*◌, ◌≤◌, ◌<◌}
 use mathlib.Core.Bool.{Bool, true, false, cond, ◌||◌}
 use mathlib.Core.Logic.{◌⊎◌, inl, inr, ⊎_elim}
@@ -228,7 +229,7 @@ module _ (xs : List ℕ) (w : Passing xs) where
 within_passes : (xs ys : List ℕ) → ((q : ℕ) → q < 3 → get_or ys q 0 ≡ get_or xs q 0) → Within ys (growers_of xs) (pilots_of xs) → Passing ys
 within_passes xs ys head w = rw (head 1 (omega arith), head 2 (omega arith)) w
 
-pub changed_passing : (c : Call) (xs : List ℕ) → Passing xs → refusal_of c xs ≡ 0 → Passing (changed c xs)
+pub changed_passing : (c : Call) (xs : List ℕ) → Passing xs → refusal_of c xs ≡ Ok tt → Passing (changed c xs)
 changed_passing (SetHours p h) xs w e = go (eqb h 0) refl
   where
     fine : (is_in p xs ≡ true) × (h ≤ 60)

@@ -1,9 +1,11 @@
 -- The calls on an open market, over the list of its ticket's numbers: what each answers, and the numbers after it.
 -- Assumes nothing.
+use Rattle.std.specs.Prelude.{Ok, Err, is_ok}
 use Rattle.std.specs.Prelude.{ℕ, zero, suc, Bool, false, cond, ◌&&◌, ◌||◌, List, [], ◌∷◌, leb, ltb, eqb, get_or, set}
 use Rattle.std.proofs.lemmas.List.Edits.{sets}
 use Rattle.checks.specs.declared.ticket.Field.TheVariants.{Hours}
-use Rattle.checks.specs.Refusals.{no_party, against_limits, must, first}
+use Rattle.checks.specs.declared.refusals.Refusal.{Refusal}
+use Rattle.checks.specs.Refusals.{Checked, must, first}
 use Rattle.checks.specs.TicketFaults.{fault_of, pair_passes}
 use Rattle.offers.specs.declared.Terms.{Terms}
 use Rattle.tables.specs.declared.Quantity.TheVariants.{TariffCap}
@@ -73,28 +75,29 @@ changed (SetHours p h) l = cond (eqb h 0) (without_deals p (with_hours p h l)) (
 changed (SetPair i j t) l = with_terms (Grower i) j t l
 changed NoCall l = l
 
--- The refusal of a call, 0 if it is accepted: first 19, no such party; then 20, a number against the limits of tickets.
-abbrev pub hours_refusal : Party → ℕ → List ℕ → ℕ
-hours_refusal p h l = first (must (is_in p l) no_party) (must (eqb (fault_of Hours 0 false h) 0) against_limits)
+-- Whether a call is refused: first for no such party, then for a number against the limits of tickets.
+abbrev pub hours_refusal : Party → ℕ → List ℕ → Checked
+hours_refusal p h l = first (must (is_in p l) Refusal.NoParty) (must (is_ok (fault_of Hours 0 false h)) Refusal.AgainstLimits)
 
-abbrev pub terms_refusal : Party → Party → Terms → List ℕ → ℕ
+abbrev pub terms_refusal : Party → Party → Terms → List ℕ → Checked
 terms_refusal g p t l =
-    first (must (is_in g l && is_in p l) no_party) (must (terms_pass (eqb (hours_of g l) 0 || eqb (hours_of p l) 0) t) against_limits)
+    first (must (is_in g l && is_in p l) Refusal.NoParty)
+    (must (terms_pass (eqb (hours_of g l) 0 || eqb (hours_of p l) 0) t) Refusal.AgainstLimits)
 
-abbrev pub refusal_of : Call → List ℕ → ℕ
+abbrev pub refusal_of : Call → List ℕ → Checked
 refusal_of (SetHours p h) l = hours_refusal p h l
 refusal_of (SetPair i j t) l = terms_refusal (Grower i) (Pilot j) t l
-refusal_of NoCall l = against_limits
+refusal_of NoCall l = Err Refusal.AgainstLimits
 
 -- The list after a call, which a refused one does not alter.
 abbrev pub after : Call → List ℕ → List ℕ
-after c l = cond (eqb (refusal_of c l) 0) (changed c l) l
+after c l = cond (is_ok (refusal_of c l)) (changed c l) l
 
 -- The list after several calls, one after another, and the first refusal among them.
 abbrev pub after_all : List Call → List ℕ → List ℕ
 after_all [] l = l
 after_all (c ∷ cs) l = after_all cs (after c l)
 
-abbrev pub first_refusal : List Call → List ℕ → ℕ
-first_refusal [] l = 0
+abbrev pub first_refusal : List Call → List ℕ → Checked
+first_refusal [] l = Ok tt
 first_refusal (c ∷ cs) l = first (refusal_of c l) (first_refusal cs (after c l))

@@ -1,22 +1,18 @@
-// The refusal of a call, 0 if it is accepted: the parties are looked for first, then the numbers are tested as those of a file are.
+// Whether a call is refused: the parties are looked for first, then the numbers are tested as those of a file are.
 ghost use Rattle.std.specs.Prelude.{◌≡◌};
 ghost use Rattle.ticket_calls.specs.Calls.{terms_pass, hours_refusal, terms_refusal};
 
 use crate::Party;
 use crate::parties::{has_no_hours, is_in};
-use checks::{AGAINST_LIMITS, Field, NO_PARTY};
+use checks::{Field, Refusal, fault_of, must};
 use offers::Terms;
 
-pub(crate) fn hours_refusal(ticket: &[u16], party: Party, hours: u16) -> u8
+pub(crate) fn hours_refusal(ticket: &[u16], party: Party, hours: u16) -> Result<(), Refusal>
     ensures { result ≡ hours_refusal party hours ticket.now }
 {
-    if !is_in(ticket, party) {
-        return NO_PARTY;
-    }
-    if checks::fault_of(Field::Hours, 0, false, usize::from(hours)) == 0 {
-        return 0;
-    }
-    AGAINST_LIMITS
+    must(is_in(ticket, party), Refusal::NoParty)?;
+    let fits = fault_of(Field::Hours, 0, false, usize::from(hours)).is_ok();
+    must(fits, Refusal::AgainstLimits)
 }
 
 fn terms_pass(none: bool, terms: Terms) -> bool
@@ -32,18 +28,18 @@ fn terms_pass(none: bool, terms: Terms) -> bool
     )
 }
 
-pub(crate) fn pair_refusal(ticket: &[u16], grower: Party, pilot: Party, terms: Terms) -> u8
+pub(crate) fn pair_refusal(
+    ticket: &[u16],
+    grower: Party,
+    pilot: Party,
+    terms: Terms,
+) -> Result<(), Refusal>
     ensures { result ≡ terms_refusal grower pilot terms ticket.now }
 {
-    if !is_in(ticket, grower) {
-        return NO_PARTY;
-    }
-    if !is_in(ticket, pilot) {
-        return NO_PARTY;
-    }
+    must(
+        is_in(ticket, grower) & is_in(ticket, pilot),
+        Refusal::NoParty,
+    )?;
     let none = has_no_hours(ticket, grower) | has_no_hours(ticket, pilot);
-    if terms_pass(none, terms) {
-        return 0;
-    }
-    AGAINST_LIMITS
+    must(terms_pass(none, terms), Refusal::AgainstLimits)
 }

@@ -1,5 +1,7 @@
 -- The answer and what is left in the lent buffer, by what was refused and what was not.
 -- Assumes nothing.
+use Rattle.std.specs.Prelude.{Result, Ok, Err}
+use Rattle.checks.specs.declared.refusals.Refusal.{Refusal}
 use Prim.Native.Nat.{ℕ, ◌+◌, ◌<◌}
 use mathlib.Core.Path.{◌≡◌, refl, sym, ap, ◌∙◌}
 use mathlib.Core.List.{List}
@@ -7,8 +9,7 @@ use native.Mathlib.Omega.{arith}
 use borrow.Author.Tests.{eq-eqb, ne_eqb}
 use lib.ListN.{length}
 use Rattle.groups.specs.Groups.{pack}
-use Rattle.reader.specs.declared.Reply.{Reply}
-use Rattle.reader.specs.Walk.{Outcome, Refusal, Numbers}
+use Rattle.reader.specs.Walk.{Outcome}
 use Rattle.reader.specs.Answer.{unpacked, packed, reply, Tells, kept}
 use Rattle.reader.proofs.Facts.{unpacked_shape, reply_refused}
 use Rattle.reader.proofs.Telling.{tells}
@@ -20,22 +21,22 @@ use Rattle.windows.specs.Narrowed.{narrowed, refusal_for, narrowed_as, new_ticke
 use Rattle.windows.specs.Held.{InFront, outcome_of}
 
 -- An answer that tells an outcome, and the buffer after it.
-abbrev pub Answers : Outcome → List ℕ → List ℕ → Reply → Type 0
+abbrev pub Answers : Outcome → List ℕ → List ℕ → Result ℕ Refusal → Type 0
 Answers o lent after r = Tells r (length lent) o × (after ≡ kept lent o)
 
 -- An answer to an outcome answers an equal one.
-pub answers_as : (o o' : Outcome) (lent after : List ℕ) (r : Reply) → o ≡ o' → Answers o lent after r → Answers o' lent after r
+pub answers_as : (o o' : Outcome) (lent after : List ℕ) (r : Result ℕ Refusal) → o ≡ o' → Answers o lent after r → Answers o' lent after r
 answers_as o o' lent after r e a = rw e at a
 
-pub refusal_answers : (lent : List ℕ) (why : ℕ) → Answers (Refusal why) lent lent (Reply.Refused why)
-refusal_answers lent why = (tells (Reply.Refused why) (length lent) (Refusal why) refl, refl)
+pub refusal_answers : (lent : List ℕ) (why : ℕ) → Answers (Err why) lent lent (Err why)
+refusal_answers lent why = (tells (Err why) (length lent) (Err why) refl, refl)
 
 -- The refusal of the windows, and none.
-pub windows_refused : (windows xs : List ℕ) → 0 < refusal_for windows xs → narrowed_as windows (Numbers xs) ≡ Refusal (refusal_for windows xs)
+pub windows_refused : (windows xs : List ℕ) → 0 < refusal_for windows xs → narrowed_as windows (Ok xs) ≡ Err (refusal_for windows xs)
 windows_refused windows xs h = rw (ne_eqb (refusal_for windows xs) 0 (λ e. omega arith))
 
 pub windows_pass : (windows xs : List ℕ) → refusal_for windows xs ≡ 0 →
-    narrowed_as windows (Numbers xs) ≡ Numbers (pack (narrowed windows xs))
+    narrowed_as windows (Ok xs) ≡ Ok (pack (narrowed windows xs))
 windows_pass windows xs e = rw (eq-eqb (refusal_for windows xs) 0 e)
 
 module _ (windows list : List ℕ) (why growers pilots : ℕ) (eg : growers ≡ growers_of list) (ep : pilots ≡ pilots_of list)
@@ -43,13 +44,13 @@ module _ (windows list : List ℕ) (why growers pilots : ℕ) (eg : growers ≡ 
   same_refusal : why ≡ refusal_for windows (ticket_front list)
   same_refusal = e ∙ rw (eg, ep, front_growers list, front_pilots list)
 
-  pub refused_answers : 0 < why → (lent : List ℕ) → Answers (outcome_of windows list) lent lent (Reply.Refused why)
+  pub refused_answers : 0 < why → (lent : List ℕ) → Answers (outcome_of windows list) lent lent (Err why)
   refused_answers h lent =
-      answers_as (Refusal why) _ lent lent (Reply.Refused why)
-      (sym (windows_refused windows (ticket_front list) (omega (arith, same_refusal, h)) ∙ ap Refusal (sym same_refusal)))
+      answers_as (Err why) _ lent lent (Err why)
+      (sym (windows_refused windows (ticket_front list) (omega (arith, same_refusal, h)) ∙ ap Err (sym same_refusal)))
       (refusal_answers lent why)
 
-  pub narrowed_answers : why ≡ 0 → (next own lent after : List ℕ) (r : Reply) → InFront (narrowed windows (ticket_front list)) next →
+  pub narrowed_answers : why ≡ 0 → (next own lent after : List ℕ) (r : Result ℕ Refusal) → InFront (narrowed windows (ticket_front list)) next →
       own ≡ ticket_front next → Answers (packed own) lent after r → Answers (outcome_of windows list) lent after r
   narrowed_answers z next own lent after r here f =
       answers_as _ _ lent after r
@@ -58,12 +59,12 @@ module _ (windows list : List ℕ) (why growers pilots : ℕ) (eg : growers ≡ 
       ∙ sym (windows_pass windows (ticket_front list) (sym same_refusal ∙ z)))
 
 -- From the ticket's bytes: what was refused, and what was unpacked.
-pub ticket_refused : (s windows zeros lent : List ℕ) (w : ℕ) → length zeros ≡ 1315 → Reply.Refused w ≡ reply (length zeros) (unpacked s) →
-    Answers (new_ticket_of s windows) lent lent (Reply.Refused w)
+pub ticket_refused : (s windows zeros lent : List ℕ) (w : ℕ) → length zeros ≡ 1315 → Err w ≡ reply (length zeros) (unpacked s) →
+    Answers (new_ticket_of s windows) lent lent (Err w)
 ticket_refused s windows zeros lent w long e =
     rw (reply_refused (length zeros) (unpacked s) w (λ xs f. omega (arith, (unpacked_shape s xs f).few, long)) e) (refusal_answers lent w)
 
-pub ticket-unpacked : (s windows xs list lent after : List ℕ) (r : Reply) → unpacked s ≡ Numbers xs → InFront xs list →
+pub ticket-unpacked : (s windows xs list lent after : List ℕ) (r : Result ℕ Refusal) → unpacked s ≡ Ok xs → InFront xs list →
     Answers (outcome_of windows list) lent after r → Answers (new_ticket_of s windows) lent after r
 ticket-unpacked s windows xs list lent after r e here =
-    answers_as _ _ lent after r (ap (narrowed_as windows) (ap Numbers here.front ∙ sym e))
+    answers_as _ _ lent after r (ap (narrowed_as windows) (ap (λ (xs : List ℕ). Ok xs) here.front ∙ sym e))

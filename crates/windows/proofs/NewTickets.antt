@@ -1,5 +1,6 @@
 -- A new ticket passes the ticket's checks; its caps fit, all else is kept, and what settling writes for it is sound.
 -- Assumes nothing.
+use Rattle.std.specs.Prelude.{Ok, Err}
 use Prim.Native.Nat.{ℕ, ◌+◌, ◌*◌, ◌-◌, ◌≤◌, ◌<◌, min}
 use mathlib.Core.Bool.{Bool, true, false, cond}
 use mathlib.Core.Path.{◌≡◌, refl, sym, ap, ◌∙◌}
@@ -12,7 +13,7 @@ use Rattle.grid.proofs.Cases.{never}
 use Rattle.groups.specs.Groups.{pack}
 use Rattle.offers.specs.declared.Terms.{Terms}
 use Rattle.market.specs.Market.{Ticket}
-use Rattle.reader.specs.Walk.{Outcome, Refusal, Numbers}
+use Rattle.reader.specs.Walk.{Outcome}
 use Rattle.reader.specs.Answer.{unpacked}
 use Rattle.reader.proofs.Facts.{unpacked_shape, pair-below}
 use Rattle.reader.proofs.TicketNumbers.{Passing, unpacked_passing, passing_unpacked}
@@ -100,27 +101,27 @@ module _ (windows xs : List ℕ) (w : Passing xs) where
   }
 
 -- A file that is made is that of the narrowed numbers of a ticket.
-pub made_of : (ticket windows file : List ℕ) → new_ticket_of ticket windows ≡ Numbers file →
-    (xs : List ℕ) × (unpacked ticket ≡ Numbers xs) × (refusal_for windows xs ≡ 0) × (pack (narrowed windows xs) ≡ file)
+pub made_of : (ticket windows file : List ℕ) → new_ticket_of ticket windows ≡ Ok file →
+    (xs : List ℕ) × (unpacked ticket ≡ Ok xs) × (refusal_for windows xs ≡ 0) × (pack (narrowed windows xs) ≡ file)
 made_of ticket windows file e = go (unpacked ticket) refl e
   where
     of_numbers : (xs : List ℕ) (t : Bool) → eqb (refusal_for windows xs) 0 ≡ t →
-        cond t (Numbers (pack (narrowed windows xs))) (Refusal (refusal_for windows xs)) ≡ Numbers file →
+        cond t (Ok (pack (narrowed windows xs))) (Err (refusal_for windows xs)) ≡ Ok file →
         (refusal_for windows xs ≡ 0) × (pack (narrowed windows xs) ≡ file)
     of_numbers xs true f e = (eqb-true (refusal_for windows xs) 0 f, cc)
     of_numbers xs false f e = never cc
 
-    go : (o : Outcome) → unpacked ticket ≡ o → narrowed_as windows o ≡ Numbers file →
-        (xs : List ℕ) × (unpacked ticket ≡ Numbers xs) × (refusal_for windows xs ≡ 0) × (pack (narrowed windows xs) ≡ file)
-    go (Refusal why) f e = never cc
-    go (Numbers xs) f e = let r = of_numbers xs (eqb (refusal_for windows xs) 0) refl e in (xs, f, r.0, r.1)
+    go : (o : Outcome) → unpacked ticket ≡ o → narrowed_as windows o ≡ Ok file →
+        (xs : List ℕ) × (unpacked ticket ≡ Ok xs) × (refusal_for windows xs ≡ 0) × (pack (narrowed windows xs) ≡ file)
+    go (Err why) f e = never cc
+    go (Ok xs) f e = let r = of_numbers xs (eqb (refusal_for windows xs) 0) refl e in (xs, f, r.0, r.1)
 
-made_unpacks : (ticket windows file xs : List ℕ) → unpacked ticket ≡ Numbers xs → pack (narrowed windows xs) ≡ file →
-    unpacked file ≡ Numbers (narrowed windows xs)
+made_unpacks : (ticket windows file xs : List ℕ) → unpacked ticket ≡ Ok xs → pack (narrowed windows xs) ≡ file →
+    unpacked file ≡ Ok (narrowed windows xs)
 made_unpacks ticket windows file xs e f =
     ap unpacked (sym f) ∙ passing_unpacked (narrowed windows xs) (narrowed_passing windows xs (unpacked_passing ticket xs e))
 
-pub new_ticket : (ticket windows file : List ℕ) → new_ticket_of ticket windows ≡ Numbers file → NewTicket ticket windows file
+pub new_ticket : (ticket windows file : List ℕ) → new_ticket_of ticket windows ≡ Ok file → NewTicket ticket windows file
 new_ticket ticket windows file e =
     let r = made_of ticket windows file e in
     let u = made_unpacks ticket windows file r.0 r.1 r.3 in
@@ -135,7 +136,7 @@ new_ticket ticket windows file e =
     }
 
 -- It has no more bytes than any ticket.
-pub new_ticket_short : (ticket windows file : List ℕ) → new_ticket_of ticket windows ≡ Numbers file → length file ≤ 2083
+pub new_ticket_short : (ticket windows file : List ℕ) → new_ticket_of ticket windows ≡ Ok file → length file ≤ 2083
 new_ticket_short ticket windows file e =
     let r = made_of ticket windows file e in
     let u = made_unpacks ticket windows file r.0 r.1 r.3 in

@@ -1,5 +1,6 @@
 -- Where everybody has the whole week, the new ticket is the old one, byte for byte.
 -- Assumes nothing.
+use Rattle.std.specs.Prelude.{Ok}
 use Prim.Native.Nat.{ℕ, zero, suc, ◌+◌, ◌*◌, ◌-◌, ◌/◌, ◌%◌, ◌≤◌, min}
 use mathlib.Core.Path.{◌≡◌, refl, sym, ap, ◌∙◌}
 use mathlib.Core.List.{List, [], ◌∷◌}
@@ -8,7 +9,6 @@ use lib.ListN.{get_or, set}
 use Rattle.grid.proofs.Places.{inside}
 use Rattle.groups.specs.Groups.{Bytes, pack}
 use Rattle.offers.specs.declared.Terms.{Terms}
-use Rattle.reader.specs.Walk.{Numbers}
 use Rattle.reader.specs.Answer.{unpacked}
 use Rattle.reader.proofs.Facts.{unpacked-packed}
 use Rattle.reader.proofs.TicketNumbers.{Passing, unpacked_passing, passing_packed}
@@ -81,12 +81,12 @@ module _ (xs : List ℕ) (w : Passing xs) where
       ∙ ap (λ (t : Terms). with_terms (Grower i) j t xs) (terms_fit (terms_of xs i j) (terms_deal xs w i j p.grower p.pilot))
       ∙ terms_again xs i j
 
-pub whole_week_lem : (ticket xs : List ℕ) → Bytes ticket → unpacked ticket ≡ Numbers xs →
-    new_ticket_of ticket (whole_week (growers_of xs + pilots_of xs)) ≡ Numbers ticket
+pub whole_week_lem : (ticket xs : List ℕ) → Bytes ticket → unpacked ticket ≡ Ok xs →
+    new_ticket_of ticket (whole_week (growers_of xs + pilots_of xs)) ≡ Ok ticket
 whole_week_lem ticket xs b e =
     let w = unpacked_passing ticket xs e in
     let stays = pairs_stay xs w (growers_of xs * pilots_of xs) (omega arith) in
     rw e (windows_pass (whole_week (growers_of xs + pilots_of xs)) xs (whole_passes (growers_of xs + pilots_of xs)))
-    ∙ ap (λ (l : List ℕ). Numbers (pack l)) stays
+    ∙ ap (λ (l : List ℕ). Ok (pack l)) stays
     ∙ sym (passing_packed xs w)
     ∙ unpacked-packed ticket xs b e

@@ -1,7 +1,8 @@
 -- What the private functions know of a list with room for every ticket: a ticket that passes its checks stands in front of it.
 -- Assumes nothing.
+use Rattle.std.specs.Prelude.{Ok}
 use Rattle.std.specs.Prelude.{ℕ, List}
-use Rattle.reader.specs.Walk.{Outcome, Numbers}
+use Rattle.reader.specs.Walk.{Outcome}
 use Rattle.tables.specs.View.{ticket_front}
 use Rattle.ticket_calls.specs.Calls.{Call, SetPair}
 use Rattle.ticket_calls.proofs.InFront as fronts
@@ -16,7 +17,7 @@ Holds list = InFront (ticket_front list) list
 
 -- What comes of that ticket.
 abbrev pub outcome_of : List ℕ → List ℕ → Outcome
-outcome_of windows list = narrowed_as windows (Numbers (ticket_front list))
+outcome_of windows list = narrowed_as windows (Ok (ticket_front list))
 
 -- The call that narrows a pair with so many hours in common.
 abbrev pub pair_call : ℕ → ℕ → ℕ → List ℕ → Call

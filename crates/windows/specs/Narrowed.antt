@@ -1,10 +1,11 @@
 -- The new ticket that everybody's windows make of a ticket: caps that fit the hours which a grower and a pilot have in common. What these
 -- leave of a pair's five numbers stands in `pair_caps`.
 -- Assumes nothing.
+use Rattle.std.specs.Prelude.{Ok, Err}
 use Rattle.std.specs.Prelude.{ℕ, zero, suc, ◌+◌, ◌*◌, ◌/◌, ◌%◌, cond, List, eqb}
 use Rattle.groups.specs.Groups.{pack}
 use Rattle.offers.specs.declared.Terms.{Terms}
-use Rattle.reader.specs.Walk.{Outcome, Refusal, Numbers}
+use Rattle.reader.specs.Walk.{Outcome}
 use Rattle.reader.specs.Answer.{unpacked}
 use Rattle.tables.specs.declared.Quantity.TheVariants.{TariffCap, TariffGain, TariffPay, FreeCap, JointGain}
 use Rattle.tables.specs.View.{growers_of, pilots_of, quantity_of}
@@ -42,9 +43,9 @@ refusal_for windows list = windows_refusal windows (growers_of list + pilots_of 
 
 -- The new ticket's bytes: the ticket's refusals come first, then those of the windows, and no others.
 abbrev pub narrowed_as : List ℕ → Outcome → Outcome
-narrowed_as windows (Refusal w) = Refusal w
-narrowed_as windows (Numbers list) =
-    cond (eqb (refusal_for windows list) 0) (Numbers (pack (narrowed windows list))) (Refusal (refusal_for windows list))
+narrowed_as windows (Err w) = Err w
+narrowed_as windows (Ok list) =
+    cond (eqb (refusal_for windows list) 0) (Ok (pack (narrowed windows list))) (Err (refusal_for windows list))
 
 abbrev pub new_ticket_of : List ℕ → List ℕ → Outcome
 new_ticket_of ticket windows = narrowed_as windows (unpacked ticket)

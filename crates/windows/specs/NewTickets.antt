@@ -1,9 +1,9 @@
 -- What a new ticket is beside the old one, in market's words. That it is so is shown in proofs/NewTickets.antt.
 -- Assumes nothing.
+use Rattle.std.specs.Prelude.{Result, Ok}
+use Rattle.checks.specs.declared.refusals.Refusal.{Refusal}
 use Rattle.std.specs.Prelude.{ℕ, ◌+◌, ◌-◌, ◌≤◌, ◌<◌, min, ◌≡◌, List, get_or, length}
 use Rattle.market.specs.Market.{Ticket}
-use Rattle.reader.specs.declared.Reply.{Reply}
-use Rattle.reader.specs.Walk.{Numbers}
 use Rattle.reader.specs.Values.{Counts}
 use Rattle.reader.specs.Answer.{unpacked}
 use Rattle.tables.specs.View.{growers_of, ticket_of}
@@ -38,12 +38,12 @@ pub record Narrows (common : ℕ → ℕ → ℕ) (old new : Ticket) : Type 0 wh
 -- A file that windows make of a ticket.
 pub record NewTicket (ticket windows file : List ℕ) : Type 0 where
   pub old : List ℕ
-  pub is_ticket : unpacked ticket ≡ Numbers old
+  pub is_ticket : unpacked ticket ≡ Ok old
   pub passing : refusal_for windows old ≡ 0
   -- it passes the ticket's checks: the narrowed numbers are unpacked
-  pub unpacks : unpacked file ≡ Numbers (narrowed windows old)
+  pub unpacks : unpacked file ≡ Ok (narrowed windows old)
   pub kind : get_or (narrowed windows old) 0 0 ≡ get_or old 0 0
   pub narrows : Narrows (common_hours windows (growers_of old)) (ticket_of old) (ticket_of (narrowed windows old))
   -- what settling writes where it has room is a sound settlement of it
-  pub settles : (lent after : List ℕ) (r : Reply) → Settled file lent after r → room_for (narrowed windows old) ≤ length lent →
+  pub settles : (lent after : List ℕ) (r : Result ℕ Refusal) → Settled file lent after r → room_for (narrowed windows old) ≤ length lent →
       (count : ℕ) × Counts r count × SettledIn file (narrowed windows old) lent after count

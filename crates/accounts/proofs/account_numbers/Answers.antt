@@ -1,9 +1,9 @@
 -- `accounts::account_numbers` meets its contract: gains are listed, then pays and commissions.
+use Rattle.std.specs.Prelude.{Ok}
 use Prim.Native.Nat.{ℕ}
 use mathlib.Core.Path.{ap₂}
 use mathlib.Core.List.{List}
 use native.Mathlib.Omega.{arith}
-use Rattle.reader.specs.declared.Reply.{Reply}
 use Rattle.tables.specs.View.{ticket_of, settlement_of}
 use Rattle.accounts.proofs.ListLaws.{numbers_listed}
 use Rattle.accounts.proofs.account_numbers.Goals as goal
@@ -14,4 +14,4 @@ returns c = let s = c.args in
     c.gains.result c.pays.result _ _ _
     c.growers-growers.ensures.0 c.pilots-pilots.ensures.0 c.gains.ensures c.pays.ensures
     c.no_numbers-list.ensures c.list_gains.ensures c.list_pays.ensures in
-    ap₂ (λ (k : ℕ) (l : List ℕ). record { reply = Reply.Done k; list = l }) (omega (arith, e.0)) e.1
+    ap₂ (λ (k : ℕ) (l : List ℕ). record { reply = Ok k; list = l }) (omega (arith, e.0)) e.1

@@ -1,6 +1,6 @@
 -- `settler::settle` meets its contract: the ticket's bytes are refused, or unpacked into numbers that are settled.
+use Rattle.std.specs.Prelude.{Ok}
 use mathlib.Core.Path.{◌≡◌, sym, ◌∙◌}
-use Rattle.reader.specs.Walk.{Numbers}
 use Rattle.reader.specs.Answer.{unpacked}
 use Rattle.marker.proofs.Marking.{unpacked_is}
 use Rattle.settler.proofs.Answering.{refused_settles, answers_settle}
@@ -10,7 +10,7 @@ pub settle_numbers-requires : goal.settle_numbers-requires
 settle_numbers-requires c = record {
   bytes = c.args.ticket.now;
   from = (let h0 : unpacked c.args.ticket.now
-      ≡ Numbers c.front.result.now = let u = c.unpack-reply in
+      ≡ Ok c.front.result.now = let u = c.unpack-reply in
       unpacked_is _ _ _ _ (sym c.in-Done.is ∙ u.ensures.tells.reply)
       (rw u.ensures.list_after at c.front.ensures) in h0);
 }
@@ -23,7 +23,7 @@ returns-in-Refused c = let u = c.unpack-reply in
 
 pub returns-in-Done : goal.returns-in-Done
 returns-in-Done c = let e = (let h0 : unpacked c.args.ticket.now
-    ≡ Numbers c.front.result.now = let u = c.unpack-reply in
+    ≡ Ok c.front.result.now = let u = c.unpack-reply in
     unpacked_is _ _ _ _ (sym c.in-Done.is ∙ u.ensures.tells.reply)
     (rw u.ensures.list_after at c.front.ensures) in h0) in
     answers_settle _ _ _ _ _ e (c.settle_numbers.ensures _ e)

@@ -12,8 +12,8 @@ returns c = let a = c.args in
     ∙ judged_lists a.ticket.now a.settlement.now _ _ g p (omega (arith, g, c.requires.ticket_bound)) (omega (arith, p, c.requires.ticket_bound))
     c.requires.settlement_value.0 c.requires.settlement_value.1
     (record {
-      grower_hours_in = c.grower_hours.ensures;
-      pilot_hours_in = c.pilot_hours.ensures;
+      grower_hours_in = c.hours.ensures;
+      pilot_hours_in = c.hours-2.ensures;
       tariff_cap_in = c.square.ensures;
       tariff_gain_in = c.square-2.ensures;
       tariff_pay_in = c.square-3.ensures;
