@@ -10,6 +10,6 @@ loop-l-init c = (search rules, sym (least_none _ _ _ _))
 pub loop-l-preserved : goal.loop-l-preserved
 loop-l-preserved c = let l = c.loop-l in (
   search rules,
-  rw (c.lesser-least.ensures, c.lesser.ensures)
+  rw (c.min-least.ensures, c.min.ensures)
       (least_turn _ _ _ _ l.l _ _ _ l.invariant.1 c.worth_of-by_tariff.ensures c.worth_of-in_free_deal.ensures),
 )

@@ -17,7 +17,7 @@ loop-p-init c = (
 pub loop-p-preserved : goal.loop-p-preserved
 loop-p-preserved c = let l = c.loop-p in (
   search rules,
-  every_turn _ _ _ _ l.invariant.1 (rw (c.used-total.ensures, c.wide.ensures.0)),
+  every_turn _ _ _ _ l.invariant.1 (rw (c.used-total.ensures, c.from.ensures)),
   made_put _ _ _ _ _ (omega arith) (rw (c.left-hours.ensures, c.used-total.ensures)) l.invariant.2,
   made_put _ _ _ _ _ (omega arith)
       (rw (c.least_of.ensures, c.least_earned-lowest.ensures, c.left-hours.ensures, c.used-total.ensures)) l.invariant.3,
