@@ -1,3 +1,4 @@
 -- The laws of `checks`.
 pub mod FaultLaws
 pub mod HourLaws
+pub mod RefusalLaws

@@ -1,5 +1,5 @@
 -- The refusals of docs/FORMAT.md and their numbers. The code has the same in src/refusals.rt, and is proved to.
-use Rattle.std.specs.Prelude.{Bool, true, false, ℕ, Result, Ok, Err}
+use Rattle.std.specs.Prelude.{Bool, true, false, ℕ, eqb, Result, Ok, Err}
 use Rattle.checks.specs.declared.refusals.Document.{Document}
 use Rattle.checks.specs.declared.refusals.Refusal.{Refusal}
 use Rattle.checks.specs.declared.refusals.Refusals.{Refusals}
@@ -27,6 +27,10 @@ number_of Refusal.NoParty = 19
 number_of Refusal.AgainstLimits = 20
 number_of Refusal.NotWindows = 21
 number_of Refusal.BadWindow = 22
+
+-- Two refusals are one where their numbers are.
+abbrev pub same : Refusal → Refusal → Bool
+same w v = eqb (number_of w) (number_of v)
 
 abbrev pub ticket_refusals : Refusals
 ticket_refusals = record {

@@ -4,23 +4,26 @@
 use mathlib.Core.Path.{◌≡◌, refl, sym, ap, ◌∙◌}
 use mathlib.Core.List.{List, [], ◌∷◌, ◌++◌}
 use Prim.Native.Nat.{ℕ, zero, suc}
+use Rattle.std.specs.Prelude.{Ok, Err}
+use Rattle.checks.specs.declared.refusals.Refusal.{Refusal}
+use Rattle.checks.specs.Refusals.{Checked}
 use Rattle.grid.proofs.Cases.{never}
-use Rattle.documents.specs.Walk.{Form, Taken, Refused, Took, Refusal, read_head, unless, with, next, closed, final, walk, rest, form}
+use Rattle.documents.specs.Walk.{Form, Taken, Refused, Took, read_head, unless, with, next, closed, final, walk, rest, form}
 
 -- With c appended to its source, what was taken is taken, and c is left too; a refusal other than `ends` stays.
-abbrev More : ℕ → List ℕ → Taken → Taken → Type 0
+abbrev More : Refusal → List ℕ → Taken → Taken → Type 0
 More ends c (Refused w) t = (w ≡ ends → ⊥) → t ≡ Refused w
 More ends c (Took xs b) t = t ≡ Took xs (b ++ c)
 
-more_unless : (ends : ℕ) (c : List ℕ) (w : ℕ) (t u : Taken) → More ends c t u → More ends c (unless w t) (unless w u)
-more_unless ends c zero t u m = m
-more_unless ends c (suc w) t u m = λ h. refl
+more_unless : (ends : Refusal) (c : List ℕ) (f : Checked) (t u : Taken) → More ends c t u → More ends c (unless f t) (unless f u)
+more_unless ends c (Ok x) t u m = m
+more_unless ends c (Err w) t u m = λ h. refl
 
-more_with : (ends : ℕ) (c xs : List ℕ) (t u : Taken) → More ends c t u → More ends c (with xs t) (with xs u)
+more_with : (ends : Refusal) (c xs : List ℕ) (t u : Taken) → More ends c t u → More ends c (with xs t) (with xs u)
 more_with ends c xs (Refused w) u m = λ h. ap (with xs) (m h)
 more_with ends c xs (Took ys b) u m = ap (with xs) m
 
-more_next : (ends : ℕ) (c : List ℕ) (t u : Taken) (go : List ℕ → List ℕ → Taken) →
+more_next : (ends : Refusal) (c : List ℕ) (t u : Taken) (go : List ℕ → List ℕ → Taken) →
     ((xs b : List ℕ) → More ends c (go xs b) (go xs (b ++ c))) → More ends c t u → More ends c (next t go) (next u go)
 more_next ends c (Refused w) u go g m = λ h. ap (λ (t : Taken). next t go) (m h)
 more_next ends c (Took xs b) u go g m = rw m (more_with ends c xs (go xs b) (go xs (b ++ c)) (g xs b))
@@ -37,14 +40,14 @@ module _ (F : Form) (c : List ℕ) where
       (more_with F.refusals.ends c (x ∷ []) (walk F read_head k (F.after s x) a) (walk F read_head k (F.after s x) (a ++ c))
       (more_walk k (F.after s x) a))
 
-  more_closed : (t u : Taken) (w : ℕ) → More F.refusals.ends c t u → closed F.refusals t ≡ Refusal w → (w ≡ F.refusals.ends → ⊥) →
-      closed F.refusals u ≡ Refusal w
+  more_closed : (t u : Taken) (w : Refusal) → More F.refusals.ends c t u → closed F.refusals t ≡ Err w → (w ≡ F.refusals.ends → ⊥) →
+      closed F.refusals u ≡ Err w
   more_closed (Refused v) u w m e h = let d : v ≡ w = cc in rw (m (λ f. h (sym d ∙ f))) e
   more_closed (Took xs []) u w m e h = never cc
   more_closed (Took xs (b ∷ r)) u w m e h = rw m e
 
-  pub refused_stays : (a : List ℕ) (w : ℕ) → form F read_head a ≡ Refusal w → (w ≡ F.refusals.ends → ⊥) →
-      form F read_head (a ++ c) ≡ Refusal w
+  pub refused_stays : (a : List ℕ) (w : Refusal) → form F read_head a ≡ Err w → (w ≡ F.refusals.ends → ⊥) →
+      form F read_head (a ++ c) ≡ Err w
   unfolding form
   refused_stays a w e h =
       let t = walk F read_head F.head F.start a in

@@ -8,19 +8,21 @@ use Prim.Native.Nat.{ℕ, zero, suc, ◌+◌, ◌-◌, ◌*◌, ◌≤◌}
 use native.Mathlib.Nat.{mul-le-mul}
 use native.Mathlib.Omega.{arith}
 use borrow.Author.Tests.{eqb-true}
-use lib.Dec.{eqb, lit<}
+use lib.Dec.{eqb}
 use lib.ListN.{length, drop}
 use lib.Seq.{take-length, drop_at, get_or-drop}
 use Rattle.grid.proofs.Cases.{never}
 use Rattle.checks.specs.declared.refusals.Document.{Document}
 use Rattle.checks.specs.declared.refusals.Refusals.{Refusals}
-use Rattle.checks.specs.Refusals.{refusals_of, settlement_refusals}
+use Rattle.std.specs.Prelude.{Ok, Err}
+use Rattle.checks.specs.declared.refusals.Refusal.{Refusal}
+use Rattle.checks.specs.Refusals.{Checked, refusals_of, settlement_refusals}
 use Rattle.checks.proofs.FaultLaws.{must_holds, party_range, settlement_passes_lem}
 use Rattle.groups.specs.Groups.{Read, Number, Ends, TooLong, Padded, Bytes, groups, encode, pack, bytes}
 use Rattle.groups.proofs.GroupLaws.{read_encodes}
 use Rattle.scanning.specs.Sources.{bytes-ending}
 use Rattle.documents.specs.declared.State.{State}
-use Rattle.documents.specs.Walk.{Taken, Refused, Took, Refusal, Numbers, Gives, read_head, met, unless, with, next, closed, final, walk}
+use Rattle.documents.specs.Walk.{Taken, Refused, Took, Gives, read_head, met, unless, with, next, closed, final, walk}
 use Rattle.documents.specs.Walk.{rest, form}
 use Rattle.documents.specs.State.{start}
 use Rattle.documents.specs.Layout.{fault_in, after_in, body_in, form_of}
@@ -31,7 +33,7 @@ use Rattle.places.proofs.ReadingLaws.{numbers_more}
 use Rattle.places.proofs.FirstFault.{Decides, first_fault, accepted_place}
 
 -- No number was read, and the refusal of that is w.
-abbrev pub NoNumber : Refusals → Read → ℕ → Type 0
+abbrev pub NoNumber : Refusals → Read → Refusal → Type 0
 NoNumber r (Number x b) w = ⊥
 NoNumber r Ends w = w ≡ r.ends
 NoNumber r TooLong w = w ≡ r.long
@@ -43,17 +45,17 @@ abbrev pub Small : Document → Type 0
 Small Document.Ticket = Unit {0}
 Small (Document.Settlement n m) = (n ≤ 16) × (m ≤ 16)
 
-module _ (p : Document) (s : List ℕ) (w : ℕ) where
+module _ (p : Document) (s : List ℕ) (w : Refusal) where
   -- The numbers are the beginning of a document, and no number can be read from what comes after them: w is the refusal of that.
   pub record Unread : Type 0 where
-    pub early : form (form_of p) read_head (numbers_at_front s) ≡ Refusal (refusals_of p).ends
+    pub early : form (form_of p) read_head (numbers_at_front s) ≡ Err (refusals_of p).ends
     pub after : List ℕ
     pub gives : Gives bytes s (numbers_at_front s) after
     pub why : NoNumber (refusals_of p) (bytes after) w
 
   -- The numbers are a whole document, and something comes after them, but no number: w is the refusal of what is left.
   pub record Over : Type 0 where
-    pub whole : form (form_of p) read_head (numbers_at_front s) ≡ Numbers (numbers_at_front s)
+    pub whole : form (form_of p) read_head (numbers_at_front s) ≡ Ok (numbers_at_front s)
     pub after : List ℕ
     pub gives : Gives bytes s (numbers_at_front s) after
     pub some : after ≡ [] → ⊥
@@ -72,14 +74,14 @@ gives_front [] b = refl
 gives_front (x ∷ xs) b = (xs ++ b, refl, gives_front xs b)
 
 -- A source of bytes that gives the numbers l, after which none can be read.
-record Halts (r : Refusals) (a l : List ℕ) (w : ℕ) : Type 0 where
+record Halts (r : Refusals) (a l : List ℕ) (w : Refusal) : Type 0 where
   after : List ℕ
   gives : Gives bytes a l after
   why : NoNumber r (bytes after) w
 
 -- A walk over bytes that is refused, and what the walk over their numbers comes to.
 module _ (p : Document) where
-  Compared : (a l : List ℕ) (w : ℕ) (t : Taken) → Type 0
+  Compared : (a l : List ℕ) (w : Refusal) (t : Taken) → Type 0
   Compared a l w t = ((t ≡ Refused w) × (w ≡ (refusals_of p).ends → ⊥)) ⊎ ((t ≡ Refused (refusals_of p).ends) × Halts (refusals_of p) a l w)
 
   took_numbers : (k i j : ℕ) (s : State) (a xs b : List ℕ) → i ≡ k + j → walk (form_of p) bytes k s a ≡ Took xs b →
@@ -90,7 +92,7 @@ module _ (p : Document) where
       (took_walk (form_of p) read_head k s (xs ++ numbers_in j b) xs (numbers_in j b)
       (record { count = t.count; good = t.good; gives = gives_front xs (numbers_in j b) }))
 
-  compared_after : (a b l : List ℕ) (x w : ℕ) (t : Taken) → bytes a ≡ Number x b → Compared b l w t →
+  compared_after : (a b l : List ℕ) (x : ℕ) (w : Refusal) (t : Taken) → bytes a ≡ Number x b → Compared b l w t →
       Compared a (x ∷ l) w (with (x ∷ []) t)
   unfolding Compared
   compared_after a b l x w t e c = ⊎_elim
@@ -98,7 +100,7 @@ module _ (p : Document) where
       (λ h. inr (ap (with (x ∷ [])) h.0, record { after = h.1.after; gives = (b, e, h.1.gives); why = h.1.why }))
       c
 
-  refused_numbers : (k i : ℕ) (s : State) (a : List ℕ) (w : ℕ) → k ≤ i → walk (form_of p) bytes k s a ≡ Refused w →
+  refused_numbers : (k i : ℕ) (s : State) (a : List ℕ) (w : Refusal) → k ≤ i → walk (form_of p) bytes k s a ≡ Refused w →
       Compared a (numbers_in i a) w (walk (form_of p) read_head k s (numbers_in i a))
   unfolding walk numbers_in Compared
   refused_numbers zero i s a w h e = never cc
@@ -109,13 +111,13 @@ module _ (p : Document) where
       Later = (u : State) (b : List ℕ) → walk (form_of p) bytes k u b ≡ Refused w →
           Compared b (numbers_in i b) w (walk (form_of p) read_head k u (numbers_in i b))
 
-      checked : Later → (v x : ℕ) (b : List ℕ) → bytes a ≡ Number x b → (v ≡ (refusals_of p).ends → ⊥) →
+      checked : Later → (v : Checked) (x : ℕ) (b : List ℕ) → bytes a ≡ Number x b → (v ≡ Err (refusals_of p).ends → ⊥) →
           unless v (with (x ∷ []) (walk (form_of p) bytes k (after_in p s x) b)) ≡ Refused w →
           Compared a (x ∷ numbers_in i b) w (unless v (with (x ∷ []) (walk (form_of p) read_head k (after_in p s x) (numbers_in i b))))
-      checked later zero x b f o e =
+      checked later (Ok z) x b f o e =
           compared_after a b (numbers_in i b) x w (walk (form_of p) read_head k (after_in p s x) (numbers_in i b)) f
           (later (after_in p s x) b (with_refused (x ∷ []) (walk (form_of p) bytes k (after_in p s x) b) w e))
-      checked later (suc v) x b f o e = let d : suc v ≡ w = cc in inl (ap Refused d, λ z. o (d ∙ z))
+      checked later (Err v) x b f o e = let d : v ≡ w = cc in inl (ap Refused d, λ z. o (ap (λ (u : Refusal). Err u) (d ∙ z)))
 
       go : Later → (r : Read) → bytes a ≡ r →
           met (refusals_of p) r (λ x b. unless (fault_in p s x) (with (x ∷ []) (walk (form_of p) bytes k (after_in p s x) b))) ≡ Refused w →
@@ -141,16 +143,16 @@ body_few Document.Ticket q (k ∷ x ∷ y ∷ []) e g =
 body_few (Document.Settlement n m) q (k ∷ x ∷ y ∷ []) e g =
     let px = (settlement_passes_lem n m 1 x g.1.0).1 in
     let py = (settlement_passes_lem n m 2 y g.1.1.0).1 in
-    let ex : x ≡ n = eqb-true x n (must_holds (eqb x n) settlement_refusals.parties (lit< tt) px) in
-    let ey : y ≡ m = eqb-true y m (must_holds (eqb y m) settlement_refusals.parties (lit< tt) py) in
+    let ex : x ≡ n = eqb-true x n (must_holds (eqb x n) settlement_refusals.parties px) in
+    let ey : y ≡ m = eqb-true y m (must_holds (eqb y m) settlement_refusals.parties py) in
     let f : n * m ≤ 16 * 16 = mul-le-mul q.0 q.1 in
     rw (ex, ey) (omega arith)
 
-module _ (p : Document) (q : Small p) (s : List ℕ) (w : ℕ) where
+module _ (p : Document) (q : Small p) (s : List ℕ) (w : Refusal) where
   -- What the numbers of refused bytes come to.
   Refused_so : Type 0
   Refused_so =
-      ((form (form_of p) read_head (numbers_at_front s) ≡ Refusal w) × (w ≡ (refusals_of p).ends → ⊥)) ⊎ (Unread p s w ⊎ Over p s w)
+      ((form (form_of p) read_head (numbers_at_front s) ≡ Err w) × (w ≡ (refusals_of p).ends → ⊥)) ⊎ (Unread p s w ⊎ Over p s w)
 
   -- after the first three numbers
   module _ (xs b : List ℕ) (f : walk (form_of p) bytes 3 start s ≡ Took xs b) where
@@ -200,9 +202,9 @@ module _ (p : Document) (q : Small p) (s : List ℕ) (w : ℕ) where
             let n : numbers_at_front s ≡ xs ++ ys = numbers_front
             ∙ ap (λ (l : List ℕ). xs ++ l) (gives_numbers ys b c 1313 (suc (1312 - k)) u.gives (omega (arith, few, u.count))
             ∙ ap (λ (l : List ℕ). ys ++ l) z ∙ append-nil ys) in
-            let o : form (form_of p) read_head (numbers_at_front s) ≡ Numbers (xs ++ ys) = rw (head_numbers, body_numbers, z) in
+            let o : form (form_of p) read_head (numbers_at_front s) ≡ Ok (xs ++ ys) = rw (head_numbers, body_numbers, z) in
             inr (inr (record {
-              whole = o ∙ ap Numbers (sym n);
+              whole = o ∙ ap (λ (l : List ℕ). Ok l) (sym n);
               after = c;
               gives = rw n (gives_append bytes s xs b ys c t.gives u.gives);
               some = some;
@@ -216,7 +218,7 @@ module _ (p : Document) (q : Small p) (s : List ℕ) (w : ℕ) where
         go TooLong g = over (more ∙ rw g) (λ x a h. never cc)
         go Padded g = over (more ∙ rw g) (λ x a h. never cc)
 
-    body_refusal : (t : Taken) → rest (form_of p) bytes xs b ≡ t → closed (refusals_of p) (with xs t) ≡ Refusal w → Refused_so
+    body_refusal : (t : Taken) → rest (form_of p) bytes xs b ≡ t → closed (refusals_of p) (with xs t) ≡ Err w → Refused_so
     body_refusal (Refused v) g e = let d : v ≡ w = cc in body_refused (g ∙ ap Refused d)
     body_refusal (Took ys []) g e = never cc
     body_refusal (Took ys (a ∷ c)) g e = body_took ys (a ∷ c) g (λ z. never cc) (cc)
@@ -228,16 +230,16 @@ module _ (p : Document) (q : Small p) (s : List ℕ) (w : ℕ) where
       (λ h. inr (inl (record { early = rw h.0; after = h.1.after; gives = h.1.gives; why = h.1.why })))
       (refused_numbers p 3 most_numbers start s w (omega arith) e)
 
-  refused_so : form (form_of p) bytes s ≡ Refusal w → Refused_so
+  refused_so : form (form_of p) bytes s ≡ Err w → Refused_so
   unfolding form
   refused_so e = go (walk (form_of p) bytes 3 start s) refl e
     where
-      go : (t : Taken) → walk (form_of p) bytes 3 start s ≡ t → closed (refusals_of p) (next t (rest (form_of p) bytes)) ≡ Refusal w → Refused_so
+      go : (t : Taken) → walk (form_of p) bytes 3 start s ≡ t → closed (refusals_of p) (next t (rest (form_of p) bytes)) ≡ Err w → Refused_so
       go (Refused v) f e = let d : v ≡ w = cc in head_refused (f ∙ ap Refused d)
       go (Took xs b) f e = body_refusal xs b f (rest (form_of p) bytes xs b) refl e
 
   -- The place of refused bytes is that of the number that decides the refusal, or the one after all numbers, where none can be read.
-  pub bytes_fault : form (form_of p) bytes s ≡ Refusal w →
+  pub bytes_fault : form (form_of p) bytes s ≡ Err w →
       Decides p (numbers_at_front s) w (number_of p s)
       ⊎ ((number_of p s ≡ length (numbers_at_front s)) × (Unread p s w ⊎ Over p s w))
   unfolding Refused_so

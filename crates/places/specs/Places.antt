@@ -1,17 +1,18 @@
 -- Where a refusal of a document is: the first number with which what was read so far is refused for more than ending early.
 -- Assumes nothing.
-use Rattle.std.specs.Prelude.{Bool, false, not, List, [], ◌∷◌, ℕ, zero, suc, eqb, length, take}
+use Rattle.std.specs.Prelude.{Bool, false, not, List, [], ◌∷◌, ℕ, zero, suc, length, take, Ok, Err}
 use Rattle.grid.specs.First.{first}
 use Rattle.checks.specs.declared.refusals.Document.{Document}
-use Rattle.checks.specs.Refusals.{refusals_of}
+use Rattle.checks.specs.declared.refusals.Refusal.{Refusal}
+use Rattle.checks.specs.Refusals.{refusals_of, same}
 use Rattle.groups.specs.Groups.{Read, Number, Ends, TooLong, Padded, bytes, pack}
-use Rattle.documents.specs.Walk.{Outcome, Refusal, Numbers, read_head, form}
+use Rattle.documents.specs.Walk.{Outcome, read_head, form}
 use Rattle.documents.specs.Layout.{form_of}
 
 -- It is refused, and not because it ends early.
-abbrev pub refused_otherwise : ℕ → Outcome → Bool
-refused_otherwise ends (Refusal w) = not (eqb w ends)
-refused_otherwise ends (Numbers xs) = false
+abbrev pub refused_otherwise : Refusal → Outcome → Bool
+refused_otherwise ends (Err w) = not (same w ends)
+refused_otherwise ends (Ok xs) = false
 
 -- A beginning of a list is faulty.
 abbrev pub faulty : Document → List ℕ → Bool

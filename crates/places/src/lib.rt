@@ -9,18 +9,13 @@ mod reading; // reading.rt: the numbers that bytes begin with, and the bytes tha
 use checks::{Document, refusals_of};
 use numbers::front;
 use reading::{bytes_of, fill, room};
-use scanning::{Scanned, scan};
+use scanning::scan;
 
 // Whether a list is refused, and not because it ends early.
 fn faulty(document: Document, list: &[u16]) -> bool
     ensures { result ≡ faulty document list.now }
 {
-    let refusals = refusals_of(document);
-    let seen = scan(document, list);
-    match seen {
-        Scanned::Refused { why } => why != refusals.ends,
-        Scanned::Whole { count: _ } => false,
-    }
+    scan(document, list).is_err_and(|why| why != refusals_of(document).ends)
 }
 
 // The place of the first fault of a list, numbers counted from 0; the list's length if there is none.

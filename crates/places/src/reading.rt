@@ -35,8 +35,8 @@ pub(crate) fn bytes_of(list: &[u16]) -> usize
     ensures { result ≡ length (pack list.now) }
 {
     let mut total: usize = 0;
-    for k in 0..list.len() {
-        total = total + size(list[k]);
+    for &x in list {
+        total = total + size(x);
     }
     total
 }

@@ -1,5 +1,5 @@
 -- `places::of_list` meets its contract: no beginning that was passed is faulty.
-use Prim.Native.Nat.{◌≤◌, ◌-◌}
+use Prim.Native.Nat.{◌≤◌}
 use lib.ListN.{length}
 use Rattle.grid.specs.First.{NoneBefore}
 use Rattle.places.specs.Places.{faulty_at}

@@ -1,6 +1,4 @@
 -- `places::reading::fill` meets its contract: the invariant is `Reading`: the numbers that are left are read from here on.
-use Prim.Native.Nat.{◌-◌}
-use lib.ListN.{length}
 use Rattle.places.proofs.ReadingLaws.{Reading}
 use Rattle.places.proofs.reading.fill.Given as goal
 
