@@ -4,7 +4,9 @@
 
 mod faults;
 mod meaning;
+mod settlements;
 mod spares;
 
-pub use faults::{Fault, MOST_FAULTS, fault_of, faults_of};
-pub use meaning::{explain, is_of_ticket, put_refusal, put_verdict};
+pub use faults::faults_of;
+pub use meaning::{Explained, Finding, Reason, is_of_ticket};
+pub use settlements::Settled;

@@ -1,224 +1,201 @@
-// What a verdict or a refusal means, in words, put into a text.
-use crate::spares::{Spare, of_grower, of_pilot};
-use files::{Stream, fill_in, put};
+// What a verdict or a refusal means, in words.
+use crate::settlements::Settled;
+use crate::spares::{Spare, cheapest};
+use checks::Refusal;
 use market::Deal;
-use reader::Reply;
-use tables::Quantity;
+use std::fmt;
+use tables::{Quantity, Side};
 use texts::Meaning;
-use verdicts::{Values, Verdict};
+use verdicts::Verdict;
 
-// The words of a refusal's number, or of a verdict's.
-fn put_meaning(page: &mut [u8], stream: Stream, what: Meaning, number: u8) -> Stream {
-    let mut text = [0u8; 96];
-    let reply = texts::telling(what, number, &mut text);
-    match reply {
-        Reply::Refused { why: _ } => stream,
-        Reply::Done { count } => put(page, stream, ascii::front(&text, count)),
+// The words of the library, which are ASCII.
+fn write_meaning<W: fmt::Write>(
+    f: &mut fmt::Formatter<W>,
+    what: Meaning,
+    number: u8,
+) -> fmt::Result {
+    let mut text = [0u8; texts::TEXT];
+    match texts::telling(what, number, &mut text) {
+        Ok(count) => f.write_str(std::str::from_utf8(ascii::front(&text, count)).unwrap_or("")),
+        Err(_) => Ok(()),
     }
 }
 
 // Whether it is the ticket that is refused, of a ticket and a settlement: 11 to 17 are those of the settlement.
-pub fn is_of_ticket(why: u8) -> bool {
-    why < 11 || why == 18
+pub fn is_of_ticket(why: Refusal) -> bool {
+    let number = u8::from(why);
+    number < 11 || number == 18
 }
 
 // What is refused, and why.
-pub fn put_refusal(page: &mut [u8], stream: Stream, why: u8) -> Stream {
-    put_meaning(page, stream, Meaning::Refusal, why)
+#[derive(Clone, Copy)]
+pub struct Reason {
+    pub why: Refusal,
 }
 
-fn put_deal(page: &mut [u8], stream: Stream, deal: Deal) -> Stream {
+impl fmt::Display for Reason {
+    fn fmt<W: fmt::Write>(&self, f: &mut fmt::Formatter<W>) -> fmt::Result {
+        write_meaning(f, Meaning::Refusal, u8::from(self.why))
+    }
+}
+
+fn name_of(deal: Deal) -> &'static str {
     match deal {
-        Deal::Tariff => put(page, stream, b", tariff deal"),
-        Deal::Free => put(page, stream, b", free deal"),
+        Deal::Tariff => "tariff deal",
+        Deal::Free => "free deal",
     }
 }
 
-fn put_pair(page: &mut [u8], stream: Stream, i: usize, j: usize, deal: Deal) -> Stream {
-    let pair = fill_in(page, stream, b"grower %, pilot %", &[i as u64, j as u64]);
-    let whole = put_deal(page, pair, deal);
-    put(page, whole, b": ")
+// A verdict, after whom it names: nobody, a grower, a pilot, or a pair and its deal.
+#[derive(Clone, Copy)]
+pub struct Finding {
+    pub verdict: Verdict,
 }
 
-// Whom a verdict names: nobody, a grower, a pilot, or a pair and its deal.
-fn put_named(
-    page: &mut [u8],
-    stream: Stream,
-    verdict: u8,
-    i: usize,
-    j: usize,
-    deal: Deal,
-) -> Stream {
-    match verdict {
-        1 => stream,
-        5 => fill_in(page, stream, b"grower %: ", &[i as u64]),
-        6 => fill_in(page, stream, b"pilot %: ", &[j as u64]),
-        _ => put_pair(page, stream, i, j, deal),
+impl fmt::Display for Finding {
+    fn fmt<W: fmt::Write>(&self, f: &mut fmt::Formatter<W>) -> fmt::Result {
+        let values = verdicts::values_of(self.verdict);
+        let deal = name_of(values.deal);
+        match self.verdict {
+            Verdict::Refused { .. } | Verdict::Sound { .. } => {}
+            Verdict::GrowerOverHours { grower } => write!(f, "grower {grower}: ")?,
+            Verdict::PilotOverHours { pilot } => write!(f, "pilot {pilot}: ")?,
+            _ => write!(
+                f,
+                "grower {}, pilot {}, {deal}: ",
+                values.grower, values.pilot
+            )?,
+        }
+        write_meaning(f, Meaning::Verdict, values.verdict)
     }
 }
 
-// A verdict, by its number on paper.
-pub fn put_verdict(
-    page: &mut [u8],
-    stream: Stream,
-    verdict: u8,
+// What somebody would give up for an hour more of a deal.
+#[derive(Clone, Copy)]
+struct GivenUp {
+    spare: Option<Spare>,
+    side: Side,
+}
+
+fn partner_of(side: Side) -> &'static str {
+    match side {
+        Side::Growers => "pilot",
+        Side::Pilots => "grower",
+    }
+}
+
+impl fmt::Display for GivenUp {
+    fn fmt<W: fmt::Write>(&self, f: &mut fmt::Formatter<W>) -> fmt::Result {
+        match self.spare {
+            None => f.write_str("has no spare"),
+            Some(Spare::FreeHour) => f.write_str("gives up a free hour, worth 0"),
+            Some(
+                Spare::Hour {
+                    partner,
+                    deal,
+                    worth,
+                },
+            ) => write!(
+                f,
+                "gives up an hour with {} {partner}, {}, worth {worth}",
+                partner_of(self.side),
+                name_of(deal)
+            ),
+        }
+    }
+}
+
+// What an hour more of a deal earns two parties, and the hours that they would give up for it.
+#[derive(Clone, Copy)]
+struct Gains<'a> {
+    settled: Settled<'a>,
     grower: usize,
     pilot: usize,
     deal: Deal,
-) -> Stream {
-    let named = put_named(page, stream, verdict, grower, pilot, deal);
-    put_meaning(page, named, Meaning::Verdict, verdict)
 }
 
-fn put_given_up(page: &mut [u8], stream: Stream, spare: Spare) -> Stream {
-    match spare {
-        Spare::Nothing => put(page, stream, b" has no spare"),
-        Spare::FreeHour => put(page, stream, b" gives up a free hour, worth 0"),
-        Spare::Hour {
-            partner: _,
-            deal: _,
-            worth: _,
-        } => put(page, stream, b" gives up an hour with "),
+impl<'a> Gains<'a> {
+    fn earned(&self, quantity: Quantity) -> u16 {
+        grid::cell(
+            tables::square(self.settled.ticket, quantity),
+            self.grower,
+            self.pilot,
+        )
     }
-}
 
-// An hour of a deal with somebody.
-fn put_hour(page: &mut [u8], stream: Stream, who: &[u8], spare: Spare) -> Stream {
-    let Spare::Hour {
-        partner,
-        deal,
-        worth,
-    } = spare
-    else {
-        return put(page, stream, b"\n");
-    };
-    let named = fill_in(page, stream, who, &[partner as u64]);
-    let dealt = put_deal(page, named, deal);
-    fill_in(page, dealt, b", worth %\n", &[worth as u64])
-}
-
-fn put_grower_spare(page: &mut [u8], stream: Stream, i: usize, spare: Spare) -> Stream {
-    let named = fill_in(page, stream, b"grower %", &[i as u64]);
-    let told = put_given_up(page, named, spare);
-    put_hour(page, told, b"pilot %", spare)
-}
-
-fn put_pilot_spare(page: &mut [u8], stream: Stream, j: usize, spare: Spare) -> Stream {
-    let named = fill_in(page, stream, b"pilot %", &[j as u64]);
-    let told = put_given_up(page, named, spare);
-    put_hour(page, told, b"grower %", spare)
-}
-
-fn earned(ticket: &[u16], quantity: Quantity, i: usize, j: usize) -> u64 {
-    grid::cell(tables::square(ticket, quantity), i, j) as u64
-}
-
-// What an hour more of a deal earns the two.
-fn put_earned(
-    page: &mut [u8],
-    stream: Stream,
-    ticket: &[u16],
-    i: usize,
-    j: usize,
-    deal: Deal,
-) -> Stream {
-    match deal {
-        Deal::Tariff => {
-            let gain = earned(ticket, Quantity::TariffGain, i, j);
-            let pay = earned(ticket, Quantity::TariffPay, i, j);
-            fill_in(
-                page,
-                stream,
-                b"an hour more earns them % and %\n",
-                &[gain, pay],
-            )
-        }
-        Deal::Free => {
-            let joint_gain = earned(ticket, Quantity::JointGain, i, j);
-            fill_in(
-                page,
-                stream,
-                b"an hour more earns them % together\n",
-                &[joint_gain],
-            )
+    fn given_up(&self, side: Side) -> GivenUp {
+        GivenUp {
+            spare: cheapest(self.settled, side, self.grower, self.pilot, self.deal),
+            side,
         }
     }
 }
 
-// The same, and the hours that they would give up for it.
-fn put_gains(
-    page: &mut [u8],
-    stream: Stream,
-    ticket: &[u16],
-    settlement: &[u16],
-    i: usize,
-    j: usize,
-    deal: Deal,
-) -> Stream {
-    let told = put_earned(page, stream, ticket, i, j, deal);
-    let by_grower = of_grower(ticket, settlement, i, j, deal);
-    let given = put_grower_spare(page, told, i, by_grower);
-    let by_pilot = of_pilot(ticket, settlement, i, j, deal);
-    put_pilot_spare(page, given, j, by_pilot)
+impl<'a> fmt::Display for Gains<'a> {
+    fn fmt<W: fmt::Write>(&self, f: &mut fmt::Formatter<W>) -> fmt::Result {
+        match self.deal {
+            Deal::Tariff => writeln!(
+                f,
+                "an hour more earns them {} and {}",
+                self.earned(Quantity::TariffGain),
+                self.earned(Quantity::TariffPay)
+            )?,
+            Deal::Free => writeln!(
+                f,
+                "an hour more earns them {} together",
+                self.earned(Quantity::JointGain)
+            )?,
+        }
+        writeln!(f, "grower {} {}", self.grower, self.given_up(Side::Growers))?;
+        writeln!(f, "pilot {} {}", self.pilot, self.given_up(Side::Pilots))
+    }
 }
 
-// What follows the words of verdict 1. Where the ticket has a tariff deal no worth is promised.
-fn put_worth(page: &mut [u8], stream: Stream, ticket: &[u16], worth: u64) -> Stream {
+// The verdict on a settlement of a ticket: what it is, and why. Where the ticket has a tariff deal no worth is promised.
+#[derive(Clone, Copy)]
+pub struct Explained<'a> {
+    pub settled: Settled<'a>,
+    pub verdict: Verdict,
+}
+
+fn has_tariff_deal(ticket: &[u16]) -> bool {
     let caps = tables::square(ticket, Quantity::TariffCap);
-    if totals::has_tariff_deal(tables::growers(ticket), tables::pilots(ticket), caps) {
-        return stream;
-    }
-    fill_in(
-        page,
-        stream,
-        b"worth %: no settlement of this ticket is worth more\n",
-        &[worth],
-    )
+    totals::has_tariff_deal(tables::growers(ticket), tables::pilots(ticket), caps)
 }
 
-// What follows the words of a verdict, for those that have more to say.
-fn put_more(
-    page: &mut [u8],
-    stream: Stream,
-    ticket: &[u16],
-    settlement: &[u16],
-    values: Values,
-) -> Stream {
-    let verdict = values.verdict;
-    let deal = values.deal;
-    match verdict {
-        1 => put_worth(page, stream, ticket, values.worth),
-        7 | 8 => put_gains(
-            page,
-            stream,
-            ticket,
-            settlement,
-            values.grower,
-            values.pilot,
-            deal,
-        ),
-        _ => stream,
+impl<'a> fmt::Display for Explained<'a> {
+    fn fmt<W: fmt::Write>(&self, f: &mut fmt::Formatter<W>) -> fmt::Result {
+        let settled = self.settled;
+        let verdict = self.verdict;
+        writeln!(f, "{}", Finding { verdict })?;
+        match verdict {
+            Verdict::Sound { worth, .. } if !has_tariff_deal(settled.ticket) => {
+                writeln!(
+                    f,
+                    "worth {worth}: no settlement of this ticket is worth more"
+                )
+            }
+            Verdict::Idle {
+                grower,
+                pilot,
+                deal,
+                ..
+            }
+            | Verdict::Blocks {
+                grower,
+                pilot,
+                deal,
+                ..
+            } => {
+                let gains = Gains {
+                    settled,
+                    grower,
+                    pilot,
+                    deal,
+                };
+                write!(f, "{gains}")
+            }
+            _ => Ok(()),
+        }
     }
-}
-
-// The verdict on a settlement of a ticket, both as lists that have been read: what it is, and why.
-pub fn explain(
-    page: &mut [u8],
-    stream: Stream,
-    ticket: &[u16],
-    settlement: &[u16],
-    verdict: Verdict,
-) -> Stream {
-    let values = verdicts::values_of(verdict);
-    let deal = values.deal;
-    let told = put_verdict(
-        page,
-        stream,
-        values.verdict,
-        values.grower,
-        values.pilot,
-        deal,
-    );
-    let ended = put(page, told, b"\n");
-    put_more(page, ended, ticket, settlement, values)
 }
