@@ -17,12 +17,10 @@ fn clash(pilots: usize, price: [u32; 16], shift: u32) -> usize
     requires { pilots ≤ 16 }
     ensures { result ≡ clash_of price pilots shift }
 {
-    for j in 0..pilots {
-        if (u64::from(price[j]) + u64::from(shift)) % 18 == 0 {
-            return j;
-        }
-    }
-    pilots
+    price[..pilots]
+        .iter()
+        .position(|&p| (u64::from(p) + u64::from(shift)) % 18 == 0)
+        .unwrap_or(pilots)
 }
 
 // The first number that makes no price of the first pilots, at most 16, a whole number of euros; 17 if none below does.
@@ -30,10 +28,7 @@ pub fn rounding(pilots: usize, price: [u32; 16]) -> u32
     ensures { result ≡ shift_of price (min 16 pilots) }
 {
     let end = numbers::within(pilots);
-    for shift in 0..17u32 {
-        if end <= clash(end, price, shift) {
-            return shift;
-        }
-    }
-    17
+    (0..17u32)
+        .find(|&shift| end <= clash(end, price, shift))
+        .unwrap_or(17)
 }

@@ -8,6 +8,7 @@ use mathlib.Core.List.{List, [], ◌∷◌, ◌++◌}
 use native.Mathlib.Omega.{arith}
 use borrow.Author.Tests.{le-leb, lt-leb, lt-ltb, le-ltb}
 use lib.Dec.{leb}
+use mir.Val.{bool_byte}
 use lib.ListN.{get_or, set, length, length-set}
 use lib.Seq.{get_or-set_same, get_or-set_other}
 use Rattle.grid.specs.Pick.{pick}
@@ -111,6 +112,11 @@ one_at_most false = omega arith
 
 pub count_few : (test : ℕ → Bool) (h : ℕ) → count_to test h ≤ h
 count_few test h = omega (arith, sum_bound (λ x. pick (test x) 1 0) 1 h (λ x _. one_at_most (test x)))
+
+-- A mark as a number of 8 bits.
+pub byte_pick : (t : Bool) → (bool_byte t ≡ pick t 1 0) × (bool_byte t ≤ 1)
+byte_pick true = (refl, omega arith)
+byte_pick false = (refl, omega arith)
 
 -- The same hours are as many, and all hours of the week are 168.
 pub hours-same : (f g : ℕ → Bool) → ((h : ℕ) → h < 168 → f h ≡ g h) → hours_with f ≡ hours_with g

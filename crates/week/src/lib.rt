@@ -5,9 +5,7 @@
 ghost use Rattle.std.specs.Prelude.{false, ◌&&◌, ◌||◌, ◌≡◌, ◌<◌, get_or};
 ghost use Rattle.week.specs.Week.{stretch, in_week, has, hours_with, Marks};
 
-// How many hours a week has, which is the latest closing hour too.
-const HOURS: usize = 168;
-
+// The latest closing hour, since a week has 168 hours.
 const LATEST: u16 = 168;
 
 // Whether a stretch has any hours, and none past the week.
@@ -29,11 +27,8 @@ pub fn with_stretch(week: [bool; 168], first: u16, closing: u16) -> [bool; 168]
     ensures { Marks (λ h. get_or week h false || has (stretch first closing) h) result }
 {
     let mut marked = week;
-    let end = closing.min(LATEST);
-    let mut h = first;
-    while h < end {
+    for h in first..closing.min(LATEST) {
         marked[usize::from(h)] = true;
-        h += 1;
     }
     marked
 }
@@ -43,10 +38,8 @@ pub fn common(a: &[bool; 168], b: &[bool; 168]) -> u16
     ensures { result ≡ hours_with (λ h. get_or a.now h false && get_or b.now h false) }
 {
     let mut count: u16 = 0;
-    for h in 0..HOURS {
-        if a[h] & b[h] {
-            count += 1;
-        }
+    for (&one, &other) in a.iter().zip(b) {
+        count += u16::from(one & other);
     }
     count
 }

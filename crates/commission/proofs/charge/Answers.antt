@@ -16,11 +16,11 @@ returns-then-at-bands c = let i = c.loop-k.invariant.1 in
 
 pub overflow_add-total : goal.overflow_add-total
 overflow_add-total c = let i = c.loop-k.invariant.1 in
-    let high = c.most-high.result in
+    let high = c.max-high.result in
     omega (arith, charging_fits i c.between-total.ensures.0 (omega arith) (omega arith) high (omega arith) (omega arith) (omega arith))
 
 pub loop-k-preserved : goal.loop-k-preserved
-loop-k-preserved c = let high = c.most-high.result in
+loop-k-preserved c = let high = c.max-high.result in
     let e : 2 * (c.loop-k.k + 1) ≡ 2 * c.loop-k.k + 2 = omega arith in (
       omega arith,
       rw e

@@ -1,6 +1,6 @@
 -- `commission::charge` meets its contract: the invariant is `Charging`: what is charged so far, and what the bands that are left
 -- charge, make the whole.
-use Prim.Native.Nat.{◌-◌, ◌*◌, ◌≤◌}
+use Prim.Native.Nat.{◌*◌, ◌≤◌}
 use Rattle.commission.proofs.Charging.{Charging}
 use Rattle.commission.proofs.charge.Given as goal
 

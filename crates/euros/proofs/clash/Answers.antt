@@ -1,15 +1,16 @@
--- `euros::clash` meets its contract: no price before this one is whole.
-use mathlib.Core.Path.{sym}
-use Prim.Native.Nat.{◌+◌, ◌%◌}
-use native.Mathlib.Omega.{arith}
-use borrow.Author.Tests.{eq-eqb}
-use lib.ListN.{get_or}
-use Rattle.grid.proofs.FirstPlaces.{none_le, first_is}
+-- `euros::clash` meets its contract: the place that the chain finds is the first.
+use Rattle.std.proofs.Common.{rules, ◌≡◌, ◌+◌, ◌%◌, true, false, ℕ, Bool, take}
+use mathlib.Core.Path.{◌∙◌}
+use borrow.Author.Tests.{tests}
+use Rattle.std.specs.Prelude.{eqb}
+use Rattle.std.proofs.lemmas.Iterator.{IsFirst-from_position, YieldsList-from_slice}
+use Rattle.euros.proofs.Places.{first_of}
 use Rattle.euros.proofs.clash.Goals as goal
 
-pub returns-then-widest-eq0 : goal.returns-then-widest-eq0
-returns-then-widest-eq0 c = let a = c.args in
-    sym (first_is _ _ _ (omega arith) c.loop-j.invariant.1 (λ _. eq-eqb ((get_or a.price c.loop-j.j 0 + a.shift) % 18) 0 (omega arith)))
-
 pub returns : goal.returns
-returns c = sym (first_is _ _ _ (omega arith) (none_le _ _ _ c.loop-j.invariant.1 (omega arith)) (λ h. absurd (omega arith)))
+returns c =
+    let a = c.args in
+    let whole : ℕ → Bool = λ x. eqb ((x + a.shift) % 18) 0 in
+    let found = IsFirst-from_position _ _ _ (λ x. whole x ≡ true) (λ x. whole x ≡ false) c.position.ensures.ran
+    (YieldsList-from_slice (take a.pilots a.price) cc) (λ x q k. search (rules, tests)) (λ x q k. search (rules, tests)) in
+    c.unwrap_or.ensures ∙ first_of whole a.price a.pilots (search rules) _ found

@@ -1,14 +1,16 @@
--- `euros::rounding` meets its contract: every number before this one makes some price whole.
-use mathlib.Core.Path.{sym}
-use native.Mathlib.Omega.{arith}
-use borrow.Author.Tests.{le-leb}
-use Rattle.grid.proofs.FirstPlaces.{none_le, first_is}
+-- `euros::rounding` meets its contract: the number that the chain finds is the first.
+use Rattle.std.proofs.Common.{rules, ◌≡◌, true, false}
+use mathlib.Core.Path.{◌∙◌}
+use borrow.Author.Tests.{tests}
+use Rattle.std.proofs.lemmas.Iterator.{first_from_Range}
+use Rattle.euros.specs.Euros.{none_whole}
+use Rattle.euros.proofs.Places.{first_below}
 use Rattle.euros.proofs.rounding.Goals as goal
 
-pub returns-then-end-clash : goal.returns-then-end-clash
-returns-then-end-clash c = rw (← c.within-end.ensures.0)
-    (sym (first_is _ _ _ (omega arith) c.loop-shift.invariant.1 (λ _. rw c.clash.ensures at (le-leb _ _ c.if-end-clash.true))))
-
 pub returns : goal.returns
-returns c = rw (← c.within-end.ensures.0)
-    (sym (first_is _ _ _ (omega arith) (none_le _ _ _ c.loop-shift.invariant.1 (omega arith)) (λ h. absurd (omega arith))))
+returns c =
+    let a = c.args in
+    let none = none_whole a.price c.within-end.result in
+    let found = first_from_Range _ _ _ _ (λ x. none x ≡ true) (λ x. none x ≡ false) c.find.ensures.ran
+    (λ x q k. search (rules, tests)) (λ x q k. search (rules, tests)) in
+    rw (← c.within-end.ensures.0) (c.unwrap_or.ensures ∙ first_below none 17 _ found)

@@ -1,0 +1,2 @@
+-- The laws of `euros`.
+pub mod Places
