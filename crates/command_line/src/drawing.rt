@@ -3,7 +3,6 @@ use crate::files_in::write_operand;
 use crate::refusals::refuse;
 use commands::{Asked, FAILED, operand};
 use files::put;
-use lists::Listed;
 use reader::Reply;
 
 // A number that an operand gives, if it is one.
@@ -30,7 +29,7 @@ fn no_number(rt: &HostRuntime, word: &[u8]) -> Figure {
 fn number_in(rt: &HostRuntime, word: &[u8]) -> Figure {
     let mut list = [0u16; 1];
     let listed = lists::read_numbers(word, &mut list);
-    if let Listed::Done { count } = listed {
+    if let Ok(count) = listed {
         if count == 1 {
             return Figure::Number { value: list[0] };
         }

@@ -6,7 +6,7 @@ use crate::refusals::{refuse, refuse_bytes};
 use checks::Document;
 use commands::{Asked, FAILED, operand};
 use files::{Got, Stream, fill_in};
-use lists::Listed;
+use lists::ListError;
 use numbers::entry;
 use reader::Reply;
 
@@ -211,9 +211,9 @@ fn with_text(rt: &HostRuntime, asked: Asked, ticket: &[u8], text: &[u8]) -> i32 
     let mut list = listed_numbers();
     let listed = lists::read_numbers(text, &mut list);
     match listed {
-        Listed::Wrong { line } => refuse_line(rt, asked, 1, line, b"not a number up to 65535"),
-        Listed::NoRoom => refuse_operand(rt, asked, 1, b"more than 32768 numbers"),
-        Listed::Done { count } => narrow(rt, asked, ticket, text, numbers::front(&list, count)),
+        Err(ListError::Wrong { line }) => refuse_line(rt, asked, 1, line, b"not a number up to 65535"),
+        Err(ListError::NoRoom) => refuse_operand(rt, asked, 1, b"more than 32768 numbers"),
+        Ok(count) => narrow(rt, asked, ticket, text, numbers::front(&list, count)),
     }
 }
 

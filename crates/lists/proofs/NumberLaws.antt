@@ -13,9 +13,8 @@ use Rattle.lists.specs.declared.text.Kind.{Kind}
 use Rattle.lists.specs.declared.text.Kind.TheVariants.{LineEnd, Blank, Hash, Digit, Other}
 use Rattle.lists.specs.declared.text.Mode.{Mode}
 use Rattle.lists.specs.declared.text.Mode.TheVariants.{Gap, Comment, Number}
-use Rattle.lists.specs.declared.text.Next.TheVariants.{Stop, On}
-use Rattle.lists.specs.declared.text.Given.{Given}
-use Rattle.lists.specs.declared.text.Listed.{Listed}
+use Rattle.lists.specs.declared.text.ListError.{ListError}
+use Rattle.std.specs.Prelude.{Option, Some, None, Result, Ok, Err}
 use Rattle.lists.specs.NumberText as text
 use Rattle.lists.specs.NumberText.{kind_of, next_mode, ended, last, numbers_in, line_ends, with, read_from, numbers_of}
 use Rattle.lists.specs.Listing.{Walked, list_reply, list_kept}
@@ -51,7 +50,7 @@ comment_ends_none Hash = refl
 comment_ends_none (Digit digit) = refl
 comment_ends_none Other = refl
 
-few_outside : (value : ℕ) (mode after : Mode) (kind : Kind) → text.outside value kind ≡ On after →
+few_outside : (value : ℕ) (mode after : Mode) (kind : Kind) → text.outside value kind ≡ Some after →
     length (numbers_in (ended mode kind)) + waiting after ≤ waiting mode + 1
 few_outside value mode after LineEnd e = let f : after ≡ Gap = cc in rw f (omega arith)
 few_outside value mode after Blank e = let f : after ≡ Gap = cc in rw f (omega arith)
@@ -59,7 +58,7 @@ few_outside value mode after Hash e = let f : after ≡ Comment = cc in rw f (om
 few_outside value mode after (Digit digit) e = omega (arith, waiting_one after)
 few_outside value mode after Other e = let z : ◌≡◌ {A = ℕ} 0 1 = cc in absurd (omega arith)
 
-few : (mode after : Mode) (kind : Kind) → next_mode mode kind ≡ On after →
+few : (mode after : Mode) (kind : Kind) → next_mode mode kind ≡ Some after →
     length (numbers_in (ended mode kind)) + waiting after ≤ waiting mode + 1
 few Gap after kind e = few_outside 0 Gap after kind e
 few Comment after kind e = omega (arith, waiting_one after, comment_ends_none kind)
@@ -76,12 +75,12 @@ read_end : (mode : Mode) (passed : ℕ) → read_from mode passed [] ≡ text.Li
 unfolding read_from
 read_end mode passed = refl
 
-read_stop : (mode : Mode) (passed b : ℕ) (rest : List ℕ) → next_mode mode (kind_of b) ≡ Stop →
+read_stop : (mode : Mode) (passed b : ℕ) (rest : List ℕ) → next_mode mode (kind_of b) ≡ None →
     read_from mode passed (b ∷ rest) ≡ text.WrongLine (passed + 1)
 unfolding read_from
 read_stop mode passed b rest e = rw e
 
-read_on : (mode after : Mode) (passed b : ℕ) (rest : List ℕ) → next_mode mode (kind_of b) ≡ On after →
+read_on : (mode after : Mode) (passed b : ℕ) (rest : List ℕ) → next_mode mode (kind_of b) ≡ Some after →
     read_from mode passed (b ∷ rest) ≡ with (numbers_in (ended mode (kind_of b))) (read_from after (passed + line_ends (kind_of b)) rest)
 unfolding read_from
 read_on mode after passed b rest e = rw e
@@ -118,7 +117,7 @@ reading_starts s list = record {
 
 module _ {s list₀ list : List ℕ} {mode : Mode} {passed count k : ℕ} (r : Reading s list₀ list mode passed count k) where
   pub reading_turns : (list₁ : List ℕ) (kind : Kind) (after : Mode) (count₁ passed₁ : ℕ) → k < length s → kind ≡ kind_of (get_or s k 0) →
-      next_mode mode kind ≡ On after → list₁ ≡ sets list count (numbers_in (ended mode kind)) →
+      next_mode mode kind ≡ Some after → list₁ ≡ sets list count (numbers_in (ended mode kind)) →
       count₁ ≡ count + length (numbers_in (ended mode kind)) → passed₁ ≡ passed + line_ends kind → Reading s list₀ list₁ after passed₁
       count₁ (k + 1)
   reading_turns list₁ kind after count₁ passed₁ h ek en es ec ep =
@@ -135,8 +134,8 @@ module _ {s list₀ list : List ℕ} {mode : Mode} {passed count k : ℕ} (r : R
         lines = omega (arith, ep, r.lines, lines_few kind);
       }
 
-  pub reading_stops : (list₁ : List ℕ) (kind : Kind) → k < length s → kind ≡ kind_of (get_or s k 0) → next_mode mode kind ≡ Stop →
-      Walked (numbers_of s) list₀ list₁ (Listed.Wrong (passed + 1))
+  pub reading_stops : (list₁ : List ℕ) (kind : Kind) → k < length s → kind ≡ kind_of (get_or s k 0) → next_mode mode kind ≡ None →
+      Walked (numbers_of s) list₀ list₁ (Err (ListError.Wrong (passed + 1)))
   reading_stops list₁ kind h ek en =
       let f : numbers_of s ≡ text.WrongLine (passed + 1) =
       r.same ∙ rw (drop-cons s k 0 h, read_stop mode passed (get_or s k 0) (drop (suc k) s) (rw ek at en)) in
@@ -149,49 +148,44 @@ module _ {s list₀ list : List ℕ} {mode : Mode} {passed count k : ℕ} (r : R
   reading_length = ap length r.stored ∙ length-sets list₀ 0 r.numbers
 
   -- the store of a number that has ended does not wrap the count
-  pub reading_room : (kind : Kind) (after : Mode) (g : Given) → next_mode mode kind ≡ On after → g ≡ ended mode kind →
+  pub reading_room : (kind : Kind) (after : Mode) (g : Option ℕ) → next_mode mode kind ≡ Some after → g ≡ ended mode kind →
       count + length (numbers_in g) ≤ k + 1
   reading_room kind after g en eg = rw eg (omega (arith, r.few, few mode after kind en))
 
-  pub reading_last_room : (g : Given) → g ≡ last mode → count + length (numbers_in g) ≤ k
+  pub reading_last_room : (g : Option ℕ) → g ≡ last mode → count + length (numbers_in g) ≤ k
   reading_last_room g eg = rw eg r.few
 
-  pub reading_done : (list₁ : List ℕ) (g : Given) (count₁ : ℕ) → length s ≤ k → g ≡ last mode → list₁ ≡ sets list count (numbers_in g) →
-      count₁ ≡ count + length (numbers_in g) → Walked (numbers_of s) list₀ list₁ (Listed.Done count₁)
+  pub reading_done : (list₁ : List ℕ) (g : Option ℕ) (count₁ : ℕ) → length s ≤ k → g ≡ last mode → list₁ ≡ sets list count (numbers_in g) →
+      count₁ ≡ count + length (numbers_in g) → Walked (numbers_of s) list₀ list₁ (Ok count₁)
   reading_done list₁ g count₁ h eg es ec =
       let more = numbers_in (last mode) in
       let e : count ≡ 0 + length r.numbers = omega (arith, r.counted) in
       let f = reading_ends h in
       record {
-        answer = rw f (ap Listed.Done (rw (ec, eg) (omega (arith, r.counted, length-append r.numbers more))));
+        answer = rw f (ap (λ (k : ℕ). Ok k) (rw (ec, eg) (omega (arith, r.counted, length-append r.numbers more))));
         stored = λ xs g. rw (← listed_same (r.numbers ++ more) xs (sym f ∙ g), es, eg, r.stored, e)
             (sets_append list₀ 0 r.numbers more);
       }
 
 -- A first walk, into a list of no interest, tells how many numbers there are. The lent list is then as long as that, or too short.
 
-module _ {first-lent first-after : List ℕ} {seen : Listed} (lent : List ℕ) where
-  pub answer_wrong : (l : text.Listing) → Walked l first-lent first-after seen → (line : ℕ) → seen ≡ Listed.Wrong line →
-      (Listed.Wrong line ≡ list_reply (length lent) l) × (lent ≡ list_kept lent l)
+module _ {first-lent first-after : List ℕ} {seen : Result ℕ ListError} (lent : List ℕ) where
+  pub answer_wrong : (l : text.Listing) → Walked l first-lent first-after seen → (line : ℕ) → seen ≡ Err (ListError.Wrong line) →
+      (Err (ListError.Wrong line) ≡ list_reply (length lent) l) × (lent ≡ list_kept lent l)
   answer_wrong (text.WrongLine n) w line e = (sym e ∙ w.answer, refl)
   answer_wrong (text.Listed xs) w line e = let f = w.answer in let z : ◌≡◌ {A = ℕ} 0 1 = cc in absurd (omega arith)
 
-  pub answer_none : (l : text.Listing) → Walked l first-lent first-after seen → seen ≡ Listed.NoRoom →
-      (Listed.NoRoom ≡ list_reply (length lent) l) × (lent ≡ list_kept lent l)
-  answer_none (text.WrongLine n) w e = let f = w.answer in let z : ◌≡◌ {A = ℕ} 0 1 = cc in absurd (omega arith)
-  answer_none (text.Listed xs) w e = let f = w.answer in let z : ◌≡◌ {A = ℕ} 0 1 = cc in absurd (omega arith)
-
-  pub answer_short : (l : text.Listing) → Walked l first-lent first-after seen → (count : ℕ) → seen ≡ Listed.Done count → length lent <
+  pub answer_short : (l : text.Listing) → Walked l first-lent first-after seen → (count : ℕ) → seen ≡ Ok count → length lent <
       count →
-      (Listed.NoRoom ≡ list_reply (length lent) l) × (lent ≡ list_kept lent l)
+      (Err ListError.NoRoom ≡ list_reply (length lent) l) × (lent ≡ list_kept lent l)
   answer_short (text.WrongLine n) w count e h = let f = w.answer in let z : ◌≡◌ {A = ℕ} 0 1 = cc in absurd (omega arith)
   answer_short (text.Listed xs) w count e h =
       let g = w.answer in
       let f : count ≡ length xs = cc in
       rw (lt-leb (length xs) (length lent) (omega arith)) (refl, refl)
 
-  pub answer_done : (l : text.Listing) → Walked l first-lent first-after seen → (count : ℕ) → seen ≡ Listed.Done count →
-      count ≤ length lent → {after : List ℕ} {r : Listed} → Walked l lent after r → (r ≡ list_reply (length lent) l) ×
+  pub answer_done : (l : text.Listing) → Walked l first-lent first-after seen → (count : ℕ) → seen ≡ Ok count →
+      count ≤ length lent → {after : List ℕ} {r : Result ℕ ListError} → Walked l lent after r → (r ≡ list_reply (length lent) l) ×
       (after ≡ list_kept lent l)
   answer_done (text.WrongLine n) w count e h v = let f = w.answer in let z : ◌≡◌ {A = ℕ} 0 1 = cc in absurd (omega arith)
   answer_done (text.Listed xs) w count e h v =

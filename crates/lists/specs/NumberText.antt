@@ -1,15 +1,11 @@
 -- Decimal numbers in a text: the numbers that it lists, or the line that is wrong.
 -- White space stands between numbers, and a comment goes from `#` to the end of its line. Numbers have at most 16 bits.
 -- Assumes nothing.
-use Rattle.std.specs.Prelude.{ℕ, ◌+◌, ◌-◌, ◌*◌, Bool, cond, ◌&&◌, ◌||◌, List, [], ◌∷◌, ◌++◌, leb, ltb, eqb}
+use Rattle.std.specs.Prelude.{ℕ, ◌+◌, ◌-◌, ◌*◌, Bool, Option, Some, None, cond, ◌&&◌, ◌||◌, List, [], ◌∷◌, ◌++◌, leb, ltb, eqb}
 use Rattle.lists.specs.declared.text.Kind.{Kind}
 use Rattle.lists.specs.declared.text.Kind.TheVariants.{LineEnd, Blank, Hash, Digit, Other}
 use Rattle.lists.specs.declared.text.Mode.{Mode}
 use Rattle.lists.specs.declared.text.Mode.TheVariants.{Gap, Comment, Number}
-use Rattle.lists.specs.declared.text.Next.{Next}
-use Rattle.lists.specs.declared.text.Next.TheVariants.{Stop, On}
-use Rattle.lists.specs.declared.text.Given.{Given}
-use Rattle.lists.specs.declared.text.Given.TheVariants.{Nothing, Whole}
 
 -- What a text comes to: the line, from 1 on, of the first byte that may not stand where it is, or its numbers.
 pub data Listing : Type 0 where
@@ -32,16 +28,16 @@ kind_of b =
     (cond (within 48 57 b) (Digit (b - 48)) Other)))
 
 -- a number with one digit more
-abbrev pub grown : ℕ → ℕ → Next
-grown value digit = cond (ltb (10 * value + digit) 65536) (On (Number (10 * value + digit))) Stop
+abbrev pub grown : ℕ → ℕ → Option Mode
+grown value digit = cond (ltb (10 * value + digit) 65536) (Some (Number (10 * value + digit))) None
 
 -- outside comments, where the digits so far have a value
-abbrev pub outside : ℕ → Kind → Next
-outside value LineEnd = On Gap
-outside value Blank = On Gap
-outside value Hash = On Comment
+abbrev pub outside : ℕ → Kind → Option Mode
+outside value LineEnd = Some Gap
+outside value Blank = Some Gap
+outside value Hash = Some Comment
 outside value (Digit digit) = grown value digit
-outside value Other = Stop
+outside value Other = None
 
 abbrev pub in_comment : Kind → Mode
 in_comment LineEnd = Gap
@@ -51,28 +47,28 @@ in_comment (Digit digit) = Comment
 in_comment Other = Comment
 
 -- the mode after a byte of a kind
-abbrev pub next_mode : Mode → Kind → Next
+abbrev pub next_mode : Mode → Kind → Option Mode
 next_mode Gap kind = outside 0 kind
-next_mode Comment kind = On (in_comment kind)
+next_mode Comment kind = Some (in_comment kind)
 next_mode (Number value) kind = outside value kind
 
 -- the number that ends where the text does
-abbrev pub last : Mode → Given
-last Gap = Nothing
-last Comment = Nothing
-last (Number value) = Whole value
+abbrev pub last : Mode → Option ℕ
+last Gap = None
+last Comment = None
+last (Number value) = Some value
 
 -- the number that ends before a byte of a kind
-abbrev pub ended : Mode → Kind → Given
+abbrev pub ended : Mode → Kind → Option ℕ
 ended mode LineEnd = last mode
 ended mode Blank = last mode
 ended mode Hash = last mode
-ended mode (Digit digit) = Nothing
-ended mode Other = Nothing
+ended mode (Digit digit) = None
+ended mode Other = None
 
-abbrev pub numbers_in : Given → List ℕ
-numbers_in Nothing = []
-numbers_in (Whole value) = value ∷ []
+abbrev pub numbers_in : Option ℕ → List ℕ
+numbers_in None = []
+numbers_in (Some value) = value ∷ []
 
 abbrev pub line_ends : Kind → ℕ
 line_ends LineEnd = 1
@@ -87,9 +83,9 @@ with xs (WrongLine line) = WrongLine line
 with xs (Listed ys) = Listed (xs ++ ys)
 
 -- a stop after so many line ends, or what goes on in the next mode
-abbrev pub onward : ℕ → Next → (Mode → Listing) → Listing
-onward passed Stop go = WrongLine (passed + 1)
-onward passed (On mode) go = go mode
+abbrev pub onward : ℕ → Option Mode → (Mode → Listing) → Listing
+onward passed None go = WrongLine (passed + 1)
+onward passed (Some mode) go = go mode
 
 -- the rest of a text, from a mode on, after so many line ends
 unfoldable pub read_from : Mode → ℕ → List ℕ → Listing

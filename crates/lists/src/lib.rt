@@ -3,4 +3,4 @@
 
 mod text;
 
-pub use text::{Listed, read_numbers, white};
+pub use text::{ListError, read_numbers, white};

@@ -5,17 +5,15 @@ ghost use Rattle.lists.specs.NumberText.{within, white, kind_of, grown, next_mod
 ghost use Rattle.lists.specs.NumberText.{outside, in_comment};
 ghost use Rattle.lists.specs.Listing.{Walked, list_reply, list_kept};
 
-// What reading numbers from a text answers: the line of the first byte that may not stand where it is, a list that is too short, or
-// how many numbers there are.
-#[derive(Clone, Copy)]
-pub enum Listed {
+// Why a text's numbers were not read: the line of the first byte that may not stand where it is, or a list that is too short.
+#[derive(Clone, Copy, Debug, PartialEq, Eq)]
+pub enum ListError {
     Wrong { line: usize },
     NoRoom,
-    Done { count: usize },
 }
 
 // What a byte is.
-#[derive(Clone, Copy)]
+#[derive(Clone, Copy, Debug, PartialEq, Eq)]
 pub(crate) enum Kind {
     LineEnd,
     Blank,
@@ -25,25 +23,11 @@ pub(crate) enum Kind {
 }
 
 // Where the next byte stands: between numbers, in a comment, or in a number whose digits so far have a value.
-#[derive(Clone, Copy)]
+#[derive(Clone, Copy, Debug, PartialEq, Eq)]
 pub(crate) enum Mode {
     Gap,
     Comment,
     Number { value: u16 },
-}
-
-// The mode after a byte, or a stop: the byte may not stand there.
-#[derive(Clone, Copy)]
-pub(crate) enum Next {
-    Stop,
-    On { mode: Mode },
-}
-
-// A number that has ended, if one has.
-#[derive(Clone, Copy)]
-pub(crate) enum Given {
-    Nothing,
-    Whole { value: u16 },
 }
 
 fn within(b: u8, low: u8, high: u8) -> bool
@@ -73,37 +57,32 @@ fn kind_of(b: u8) -> Kind
     }
     if within(b, 48, 57) {
         return Kind::Digit {
-            value: (b - 48) as u16,
+            value: u16::from(b - 48),
         };
     }
     Kind::Other
 }
 
 // A number with one digit more, if it still has 16 bits.
-fn grown(value: u16, digit: u16) -> Next
+fn grown(value: u16, digit: u16) -> Option<Mode>
     ensures { result ≡ grown value digit }
 {
     let more = 10 * usize::from(value) + usize::from(digit);
     if more < 65536 {
-        return Next::On {
-            mode: Mode::Number { value: more as u16 },
-        };
+        return Some(Mode::Number { value: more as u16 });
     }
-    Next::Stop
+    None
 }
 
-// Outside comments, where the digits so far have a value.
-fn outside(value: u16, kind: Kind) -> Next
+// The mode after a byte outside comments, where the digits so far have a value: none if the byte may not stand there.
+fn outside(value: u16, kind: Kind) -> Option<Mode>
     ensures { result ≡ outside value kind }
 {
     match kind {
-        Kind::LineEnd => Next::On { mode: Mode::Gap },
-        Kind::Blank => Next::On { mode: Mode::Gap },
-        Kind::Hash => Next::On {
-            mode: Mode::Comment,
-        },
+        Kind::LineEnd | Kind::Blank => Some(Mode::Gap),
+        Kind::Hash => Some(Mode::Comment),
         Kind::Digit { value: digit } => grown(value, digit),
-        Kind::Other => Next::Stop,
+        Kind::Other => None,
     }
 }
 
@@ -112,46 +91,37 @@ fn in_comment(kind: Kind) -> Mode
 {
     match kind {
         Kind::LineEnd => Mode::Gap,
-        Kind::Blank => Mode::Comment,
-        Kind::Hash => Mode::Comment,
-        Kind::Digit { value: _ } => Mode::Comment,
-        Kind::Other => Mode::Comment,
+        _ => Mode::Comment,
     }
 }
 
-fn next_mode(mode: Mode, kind: Kind) -> Next
+fn next_mode(mode: Mode, kind: Kind) -> Option<Mode>
     ensures { result ≡ next_mode mode kind }
 {
     match mode {
         Mode::Gap => outside(0, kind),
-        Mode::Comment => Next::On {
-            mode: in_comment(kind),
-        },
+        Mode::Comment => Some(in_comment(kind)),
         Mode::Number { value } => outside(value, kind),
     }
 }
 
-// The number that ends before a byte of a kind.
-fn ended(mode: Mode, kind: Kind) -> Given
+// The number that ends before a byte of a kind, if one does.
+fn ended(mode: Mode, kind: Kind) -> Option<u16>
     ensures { result ≡ ended mode kind }
 {
     match kind {
-        Kind::LineEnd => last(mode),
-        Kind::Blank => last(mode),
-        Kind::Hash => last(mode),
-        Kind::Digit { value: _ } => Given::Nothing,
-        Kind::Other => Given::Nothing,
+        Kind::LineEnd | Kind::Blank | Kind::Hash => last(mode),
+        Kind::Digit { value: _ } | Kind::Other => None,
     }
 }
 
 // The number that ends where the text does.
-fn last(mode: Mode) -> Given
+fn last(mode: Mode) -> Option<u16>
     ensures { result ≡ last mode }
 {
     match mode {
-        Mode::Gap => Given::Nothing,
-        Mode::Comment => Given::Nothing,
-        Mode::Number { value } => Given::Whole { value },
+        Mode::Gap | Mode::Comment => None,
+        Mode::Number { value } => Some(value),
     }
 }
 
@@ -160,67 +130,52 @@ fn line_ends(kind: Kind) -> usize
 {
     match kind {
         Kind::LineEnd => 1,
-        Kind::Blank => 0,
-        Kind::Hash => 0,
-        Kind::Digit { value: _ } => 0,
-        Kind::Other => 0,
+        _ => 0,
     }
 }
 
 // Stores a number that has ended after the first `count`, if the list has room, and returns how many there are now.
-fn store(list: &mut [u16], count: usize, given: Given) -> usize
-    requires { count + length (numbers_in given) < 18446744073709551616 }
-    ensures { (result ≡ count + length (numbers_in given)) × (list.new ≡ sets list.old count (numbers_in given)) }
+fn store(list: &mut [u16], count: usize, ended: Option<u16>) -> usize
+    requires { count + length (numbers_in ended) < 18446744073709551616 }
+    ensures { (result ≡ count + length (numbers_in ended)) × (list.new ≡ sets list.old count (numbers_in ended)) }
 {
-    match given {
-        Given::Nothing => count,
-        Given::Whole { value } => {
-            if count < list.len() {
-                list[count] = value;
-                return count + 1;
-            }
-            count + 1
-        }
+    let Some(value) = ended else {
+        return count;
+    };
+    if count < list.len() {
+        list[count] = value;
     }
+    count + 1
 }
 
 // Stores the numbers of a text as far as the list has room, and counts them all.
-fn walk(text: &[u8], list: &mut [u16]) -> Listed
+fn walk(text: &[u8], list: &mut [u16]) -> Result<usize, ListError>
     ensures { Walked (numbers_of text.now) list.old list.new result }
 {
     let mut mode = Mode::Gap;
     let mut passed: usize = 0;
     let mut count: usize = 0;
-    for k in 0..text.len() {
-        let kind = kind_of(text[k]);
-        let next = next_mode(mode, kind);
-        let Next::On { mode: after } = next else {
-            return Listed::Wrong { line: passed + 1 };
+    for &b in text {
+        let kind = kind_of(b);
+        let Some(after) = next_mode(mode, kind) else {
+            return Err(ListError::Wrong { line: passed + 1 });
         };
         count = store(list, count, ended(mode, kind));
-        passed = passed + line_ends(kind);
+        passed += line_ends(kind);
         mode = after;
     }
-    count = store(list, count, last(mode));
-    Listed::Done { count }
+    Ok(store(list, count, last(mode)))
 }
 
-// Reads the decimal numbers of a text into the front of a lent list. The first walk finds what is wrong, so a refusal leaves the list as
-// it was.
-pub fn read_numbers(text: &[u8], list: &mut [u16]) -> Listed
+// Reads the decimal numbers of a text into the front of a lent list, and returns how many there are. The first walk finds what is wrong,
+// so a refusal leaves the list as it was.
+pub fn read_numbers(text: &[u8], list: &mut [u16]) -> Result<usize, ListError>
     ensures value { result ≡ list_reply (length list.old) (numbers_of text.now) }
     ensures list_after { list.new ≡ list_kept list.old (numbers_of text.now) }
 {
-    let mut nowhere = [0u16; 1];
-    let seen = walk(text, &mut nowhere);
-    match seen {
-        Listed::Wrong { line } => Listed::Wrong { line },
-        Listed::NoRoom => Listed::NoRoom,
-        Listed::Done { count } => {
-            if list.len() < count {
-                return Listed::NoRoom;
-            }
-            walk(text, list)
-        }
+    let count = walk(text, &mut [0; 1])?;
+    if list.len() < count {
+        return Err(ListError::NoRoom);
     }
+    walk(text, list)
 }
