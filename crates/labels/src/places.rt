@@ -3,14 +3,14 @@ ghost use Rattle.std.specs.Prelude.{◌≡◌, ◌+◌, ◌/◌, ◌%◌, ◌<�
 ghost use Rattle.labels.specs.Spots.{hours_of, columns, party_spot, pair_spot, spot_of};
 
 // Which document a text is of.
-#[derive(Clone, Copy)]
+#[derive(Clone, Copy, Debug, PartialEq, Eq)]
 pub enum Layout {
     Ticket,
     Settlement,
 }
 
 // The first line; then one for each grower, each pilot, and each pair.
-#[derive(Clone, Copy)]
+#[derive(Clone, Copy, Debug, PartialEq, Eq)]
 pub enum Line {
     Head,
     Grower { number: usize },
@@ -19,7 +19,7 @@ pub enum Line {
 }
 
 // Where a number stands in a text.
-#[derive(Clone, Copy)]
+#[derive(Clone, Copy, Debug, PartialEq, Eq)]
 pub struct Spot {
     pub line: Line,
     pub column: usize,
@@ -53,25 +53,25 @@ fn columns(layout: Layout) -> usize
 fn quotient(x: usize, y: usize) -> usize
     ensures { result ≡ x / y }
 {
-    if y == 0 { 0 } else { x / y }
+    x.checked_div(y).unwrap_or(0)
 }
 
 fn rest(x: usize, y: usize) -> usize
     ensures { result ≡ x % y }
 {
-    if y == 0 { x } else { x % y }
+    x.checked_rem(y).unwrap_or(x)
 }
 
 // The spot of somebody's hours.
 fn party_spot(growers: usize, place: usize) -> Spot
     ensures { result ≡ party_spot growers place }
 {
-    if place < growers {
-        let line = Line::Grower { number: place };
-        return Spot { line, column: 0 };
-    }
-    let line = Line::Pilot {
-        number: place - growers,
+    let line = if place < growers {
+        Line::Grower { number: place }
+    } else {
+        Line::Pilot {
+            number: place - growers,
+        }
     };
     Spot { line, column: 0 }
 }
@@ -97,9 +97,8 @@ pub(crate) fn spot_of(layout: Layout, growers: u16, pilots: u16, place: usize) -
     ensures { result ≡ spot_of layout growers pilots place }
 {
     if place < HEAD {
-        let line = Line::Head;
         return Spot {
-            line,
+            line: Line::Head,
             column: place,
         };
     }

@@ -6,7 +6,8 @@ ghost use Rattle.labels.specs.Words.{subject, lead, head_name, term_name, agreed
 use crate::places::{Layout, Line, spot_of};
 use pages::{put, put_number};
 
-// Each of these puts words into a page from a place on, and returns the place after them.
+// Each of these puts words into a page from a place on, and returns the place after them. They are put by hand, not written by `Display`:
+// the contracts say each byte of the text, and the library allocates nothing.
 
 // Whom a line is about.
 fn put_subject(page: &mut [u8; 64], at: usize, line: Line) -> usize
@@ -46,12 +47,10 @@ fn put_lead(page: &mut [u8; 64], line: Line, between: &[u8]) -> usize
 fn put_head_name(page: &mut [u8; 64], at: usize, layout: Layout, column: usize) -> usize
     ensures { at + 15 ≤ 64 → Wrote page.old page.new at result (head_name layout column) × (result ≤ at + 15) }
 {
-    match column {
-        0 => match layout {
-            Layout::Ticket => put(page, at, b"ticket kind"),
-            Layout::Settlement => put(page, at, b"settlement kind"),
-        },
-        1 => put(page, at, b"growers"),
+    match (column, layout) {
+        (0, Layout::Ticket) => put(page, at, b"ticket kind"),
+        (0, Layout::Settlement) => put(page, at, b"settlement kind"),
+        (1, _) => put(page, at, b"growers"),
         _ => put(page, at, b"pilots"),
     }
 }
@@ -93,8 +92,7 @@ fn put_field(page: &mut [u8; 64], at: usize, layout: Layout, line: Line, column:
 {
     match line {
         Line::Head => put_head_name(page, at, layout, column),
-        Line::Grower { number: _ } => put(page, at, b"hours"),
-        Line::Pilot { number: _ } => put(page, at, b"hours"),
+        Line::Grower { number: _ } | Line::Pilot { number: _ } => put(page, at, b"hours"),
         Line::Pair {
             grower: _,
             pilot: _,

@@ -3,10 +3,10 @@ use native.Mathlib.Omega.{arith}
 use Rattle.pages.proofs.PutLaws.{put-within}
 use Rattle.labels.proofs.words.put_head_name.Goals as goal
 
-pub returns-in-Ticket : goal.returns-in-Ticket
-returns-in-Ticket c h = let w = put-within c.put.ensures 15 (omega arith) (omega (arith, h)) in
-    rw (c.in-0.is, c.in-Ticket.is) w
+pub returns-in-0-Ticket : goal.returns-in-0-Ticket
+returns-in-0-Ticket c h = let w = put-within c.put.ensures 15 (omega arith) (omega (arith, h)) in
+    rw (c.in-0-Ticket.is-0, c.in-0-Ticket.is-1) w
 
-pub returns-in-Settlement : goal.returns-in-Settlement
-returns-in-Settlement c h = let w = put-within c.put-in-Settlement.ensures 15 (omega arith) (omega (arith, h)) in
-    rw (c.in-0.is, c.in-Settlement.is) w
+pub returns-in-0-Settlement : goal.returns-in-0-Settlement
+returns-in-0-Settlement c h = let w = put-within c.put-in-0-Settlement.ensures 15 (omega arith) (omega (arith, h)) in
+    rw (c.in-0-Settlement.is-0, c.in-0-Settlement.is-1) w
