@@ -4,7 +4,7 @@ use crate::refusals::{refuse_bytes, refuse_text};
 use checks::Document;
 use commands::{Asked, FAILED, operand, written};
 use files::{Got, Standard, Stream, complain_of, fill_in};
-use layouts::{Layout, TextRead};
+use layouts::{Layout, TextError, TextRead};
 use numbers::entry;
 use reader::Reply;
 
@@ -159,10 +159,10 @@ fn pack_text(rt: &HostRuntime, asked: Asked, text: &[u8]) -> i32 {
     let mut list = listed_numbers();
     let got = layouts::read(text, &mut list);
     match got {
-        TextRead::Wrong { line } => refuse_line(rt, asked, 0, line, b"not as unpack prints it"),
-        TextRead::TooLong => refuse_operand(rt, asked, 0, b"more than 65535 bytes"),
-        TextRead::NoRoom => refuse_operand(rt, asked, 0, b"more than 32768 numbers"),
-        TextRead::Done { layout, count } => pack_list(
+        Err(TextError::Wrong { line }) => refuse_line(rt, asked, 0, line, b"not as unpack prints it"),
+        Err(TextError::TooLong) => refuse_operand(rt, asked, 0, b"more than 65535 bytes"),
+        Err(TextError::NoRoom) => refuse_operand(rt, asked, 0, b"more than 32768 numbers"),
+        Ok(TextRead { layout, count }) => pack_list(
             rt,
             asked,
             layout,

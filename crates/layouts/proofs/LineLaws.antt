@@ -10,7 +10,7 @@ use lib.ListN.{length, get_or, drop, drop_of_length-le}
 use lib.Seq.{drop-cons}
 use Rattle.layouts.specs.declared.squeezing.Mode.{Mode}
 use Rattle.layouts.specs.declared.squeezing.Mode.TheVariants.{Gap}
-use Rattle.layouts.specs.declared.squeezing.Output.{Output}
+use Rattle.std.specs.Prelude.{Option}
 use Rattle.layouts.specs.Squeezed.{next_mode, given, is_here, fewer, line_end, line_from, line_at}
 
 line_more : (mode : Mode) (line k b : ℕ) (rest : List ℕ) → is_here (given mode b) k ≡ false →
@@ -31,7 +31,7 @@ pub counting_starts : (text : List ℕ) (k : ℕ) → Counting text k Gap 1 k 0
 counting_starts text k = record { same = refl; few = omega arith }
 
 module _ {text : List ℕ} {k : ℕ} {mode : Mode} {line left j : ℕ} (s : Counting text k mode line left j) where
-  pub counting_turns : {g : Output} {after : Mode} {left₁ end : ℕ} (b : ℕ) → j < length text → b ≡ get_or text j 0 → g ≡ given mode b →
+  pub counting_turns : {g : Option ℕ} {after : Mode} {left₁ end : ℕ} (b : ℕ) → j < length text → b ≡ get_or text j 0 → g ≡ given mode b →
       is_here g left ≡ false → left₁ ≡ fewer g left → (end ≡ line_end b) × (end < 2) → after ≡ next_mode mode b →
       Counting text k after (line + end) left₁ (j + 1)
   counting_turns {g} {after} {left₁} {end} b h eb eg here el en ea = record {
@@ -39,7 +39,7 @@ module _ {text : List ℕ} {k : ℕ} {mode : Mode} {line left j : ℕ} (s : Coun
     few = omega (arith, s.few, en.1);
   }
 
-  pub counting_stops : {g : Output} (b : ℕ) → j < length text → b ≡ get_or text j 0 → g ≡ given mode b → is_here g left ≡ true → line ≡ line_at text k
+  pub counting_stops : {g : Option ℕ} (b : ℕ) → j < length text → b ≡ get_or text j 0 → g ≡ given mode b → is_here g left ≡ true → line ≡ line_at text k
   counting_stops {g} b h eb eg here =
       rw (s.same, drop-cons text j 0 h, ← eb, line_here mode line left b (drop (suc j) text) (rw eg at here))
 

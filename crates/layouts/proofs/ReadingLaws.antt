@@ -6,13 +6,13 @@ use mathlib.Core.List.{List, [], ◌∷◌}
 use Prim.Native.Nat.{ℕ, suc, ◌+◌, ◌≤◌, ◌<◌}
 use native.Mathlib.Numerals.{add-one}
 use native.Mathlib.Omega.{arith}
-use borrow.Author.Tests.{eq-eqb, ne_eqb}
 use lib.Dec.{eqb}
 use lib.ListN.{length, get_or, drop, length-drop, drop_of_length-le}
 use lib.Seq.{drop-cons, drop-drop}
 use Rattle.layouts.specs.declared.reading.Step.{Step}
-use Rattle.layouts.specs.declared.reading.Step.TheVariants.{More, Ends, Stop}
-use Rattle.layouts.specs.declared.reading.Got.{Got}
+use Rattle.layouts.specs.declared.reading.Step.TheVariants.{More, Ends}
+use Rattle.std.specs.Prelude.{Option, Some, None}
+use Rattle.std.specs.List.{starts_with as starts_in}
 use Rattle.labels.specs.declared.places.Layout.{Layout}
 use Rattle.labels.specs.Words.{label}
 use Rattle.layouts.specs.Reading.{starts_with, NoNumber, NumberIs, step_of, after_step, digits_read, entry_read}
@@ -20,39 +20,11 @@ use Rattle.layouts.specs.Answer.{got_of}
 use Rattle.grid.proofs.Cases.{never}
 use Rattle.groups.proofs.Ends.{EndOf, end_self, end_next, end_trans}
 
-and-false : (a : Bool) → (a && false) ≡ false
-and-false true = refl
-and-false false = refl
-
--- too short a text does not begin with the words
-pub starts_short : (ws s : List ℕ) → length s < length ws → starts_with ws s ≡ false
-starts_short [] s h = absurd (omega arith)
-starts_short (w ∷ ws) [] h = refl
-starts_short (w ∷ ws) (b ∷ s) h = rw (starts_short ws s (omega arith)) (and-false (eqb w b))
-
--- After k words' bytes: those that are left tell.
-module _ (words text : List ℕ) (at : ℕ) where
-  abbrev pub Matching : ℕ → Type 0
-  Matching k = starts_with words (drop at text) ≡ starts_with (drop k words) (drop (at + k) text)
-
-  pub matching_starts : Matching 0
-  matching_starts = let e : at + 0 ≡ at = omega arith in rw e
-
-  module _ (k : ℕ) (h : k < length words) (l : at + k < length text) where
-    here : starts_with (drop k words) (drop (at + k) text)
-        ≡ (eqb (get_or words k 0) (get_or text (at + k) 0) && starts_with (drop (suc k) words) (drop (suc (at + k)) text))
-    here = rw (drop-cons words k 0 h, drop-cons text (at + k) 0 l)
-
-    pub matching_turns : Matching k → get_or words k 0 ≡ get_or text (at + k) 0 → Matching (k + 1)
-    matching_turns m e =
-        let next : at + suc k ≡ suc (at + k) = omega arith in
-        m ∙ here ∙ rw (add-one k, next, eq-eqb (get_or words k 0) (get_or text (at + k) 0) e)
-
-    pub matching_stops : Matching k → (get_or words k 0 ≡ get_or text (at + k) 0 → ⊥) → starts_with words (drop at text) ≡ false
-    matching_stops m e = m ∙ here ∙ rw (ne_eqb (get_or words k 0) (get_or text (at + k) 0) e)
-
-  pub matching_ends : (k : ℕ) → length words ≤ k → Matching k → starts_with words (drop at text) ≡ true
-  matching_ends k h m = m ∙ rw (drop_of_length-le words h)
+-- what std finds at the front of a text
+pub front_told : (ws s : List ℕ) → starts_in eqb s ws ≡ starts_with ws s
+front_told [] s = refl
+front_told (w ∷ ws) [] = refl
+front_told (w ∷ ws) (b ∷ s) = ap (λ (t : Bool). eqb w b && t) (front_told ws s)
 
 -- The digits of a number: after those before k the number so far and what is left make the whole.
 digits_more : (v : ℕ) (seen : Bool) (b : ℕ) (rest : List ℕ) →
@@ -67,20 +39,20 @@ pub digits_begin : (text : List ℕ) (at : ℕ) → Digits text at 0 false at
 digits_begin text at = record { same = refl }
 
 module _ {text : List ℕ} {at v : ℕ} {seen : Bool} {k : ℕ} (d : Digits text at v seen k) where
-  module _ (h : k < length text) (s : Step) (e : s ≡ step_of v seen (get_or text k 0)) where
+  module _ (h : k < length text) (s : Option Step) (e : s ≡ step_of v seen (get_or text k 0)) where
     after : digits_read 0 false (drop at text) ≡ after_step s v (drop (suc k) text) (λ x. digits_read x true (drop (suc k) text))
     after = d.same ∙ rw (drop-cons text k 0 h, digits_more v seen (get_or text k 0) (drop (suc k) text), e)
 
-    pub digits_turn : (x : ℕ) → s ≡ More x → Digits text at x true (k + 1)
+    pub digits_turn : (x : ℕ) → s ≡ Some (More x) → Digits text at x true (k + 1)
     digits_turn x f = record { same = after ∙ rw (f, add-one k) }
 
-    pub digits_end : s ≡ Ends → Got.Number v (k + 1) ≡ got_of (length text) (digits_read 0 false (drop at text))
-    digits_end f = rw (after, f, length-drop (suc k) text) (ap (Got.Number v) (omega arith))
+    pub digits_end : s ≡ Some Ends → Some (v, k + 1) ≡ got_of (length text) (digits_read 0 false (drop at text))
+    digits_end f = rw (after, f, length-drop (suc k) text) (ap (λ (e : ℕ). Some (v, e)) (omega arith))
 
-    pub digits_stop : s ≡ Stop → Got.NoNumber ≡ got_of (length text) (digits_read 0 false (drop at text))
+    pub digits_stop : s ≡ None → None ≡ got_of (length text) (digits_read 0 false (drop at text))
     digits_stop f = rw (after, f)
 
-  pub digits_none : length text ≤ k → Got.NoNumber ≡ got_of (length text) (digits_read 0 false (drop at text))
+  pub digits_none : length text ≤ k → None ≡ got_of (length text) (digits_read 0 false (drop at text))
   unfolding digits_read
   digits_none h = rw (d.same, drop_of_length-le text h)
 
@@ -100,11 +72,11 @@ unfolding digits_read
 digits_left [] v seen x rest e = never cc
 digits_left (b ∷ s) v seen x rest e = go (λ y f. digits_left s y true x rest f) (step_of v seen b) e
   where
-    go : ((y : ℕ) → digits_read y true s ≡ NumberIs x rest → EndOf rest s) → (t : Step) →
+    go : ((y : ℕ) → digits_read y true s ≡ NumberIs x rest → EndOf rest s) → (t : Option Step) →
         after_step t v s (λ y. digits_read y true s) ≡ NumberIs x rest → EndOf rest (b ∷ s)
-    go more (More y) f = end_next rest s b (more y f)
-    go more Ends f = let r : rest ≡ s = cc in rw r (end_next s s b (end_self s))
-    go more Stop f = never cc
+    go more (Some (More y)) f = end_next rest s b (more y f)
+    go more (Some Ends) f = let r : rest ≡ s = cc in rw r (end_next s s b (end_self s))
+    go more None f = never cc
 
 pub entry_left : (l : Layout) (n m p : ℕ) (s : List ℕ) (x : ℕ) (rest : List ℕ) → entry_read l n m p s ≡ NumberIs x rest → EndOf rest s
 entry_left l n m p s x rest e = go (starts_with (label l n m p) s) refl e
@@ -123,5 +95,5 @@ module _ (l : Layout) (n m p : ℕ) (text : List ℕ) (at : ℕ) (words : List �
       got_of (length text) (digits_read 0 false (drop (at + length words) text)) ≡ got_of (length text) (entry_read l n m p (drop at text))
   entry_there e = rw (← is, e, drop-drop (length words) at text)
 
-  pub entry_missing : starts_with words (drop at text) ≡ false → Got.NoNumber ≡ got_of (length text) (entry_read l n m p (drop at text))
+  pub entry_missing : starts_with words (drop at text) ≡ false → None ≡ got_of (length text) (entry_read l n m p (drop at text))
   entry_missing e = rw (← is, e)

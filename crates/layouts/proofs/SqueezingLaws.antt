@@ -11,7 +11,7 @@ use Rattle.ascii.specs.Writing.{Wrote}
 use Rattle.ascii.proofs.PageWriting.{wrote_nothing, wrote_then, wrote_same}
 use Rattle.layouts.specs.declared.squeezing.Mode.{Mode}
 use Rattle.layouts.specs.declared.squeezing.Mode.TheVariants.{Gap}
-use Rattle.layouts.specs.declared.squeezing.Output.{Output}
+use Rattle.std.specs.Prelude.{Option}
 use Rattle.layouts.specs.Squeezed.{next_mode, given, emitted, last_of, bytes_in, squeeze_from, squeezed}
 
 pub squeeze_end : (mode : Mode) → squeeze_from mode [] ≡ bytes_in (last_of mode)
@@ -33,7 +33,7 @@ pub squeezing_starts : (page text : List ℕ) → Squeezing page page text Gap 0
 squeezing_starts page text = record { done = []; wrote = wrote_nothing page 0; same = refl; few = omega arith }
 
 module _ {page page' text : List ℕ} {mode : Mode} {count k : ℕ} (s : Squeezing page page' text mode count k) where
-  pub squeezing_turns : {page'' : List ℕ} {next : ℕ} {g : Output} {after : Mode} (b : ℕ) → k < length text → b ≡ get_or text k 0 →
+  pub squeezing_turns : {page'' : List ℕ} {next : ℕ} {g : Option ℕ} {after : Mode} (b : ℕ) → k < length text → b ≡ get_or text k 0 →
       g ≡ given mode b → after ≡ next_mode mode b → Wrote page' page'' count next (bytes_in g) × (next ≤ count + 1) →
       Squeezing page page'' text after next (k + 1)
   squeezing_turns {page''} {next} {g} {after} b h eb eg ea w =
@@ -47,7 +47,7 @@ module _ {page page' text : List ℕ} {mode : Mode} {count k : ℕ} (s : Squeezi
         few = omega (arith, w.1, s.few);
       }
 
-  pub squeezing_ends : {page'' : List ℕ} {end : ℕ} {g : Output} → length text ≤ k → g ≡ last_of mode →
+  pub squeezing_ends : {page'' : List ℕ} {end : ℕ} {g : Option ℕ} → length text ≤ k → g ≡ last_of mode →
       Wrote page' page'' count end (bytes_in g) × (end ≤ count + 1) → Wrote page page'' 0 end (squeezed text)
   squeezing_ends {page''} {end} {g} h eg w =
       let there : squeezed text ≡ s.done ++ bytes_in (last_of mode) =

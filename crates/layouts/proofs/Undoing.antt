@@ -23,7 +23,7 @@ use Rattle.documents.specs.State.{start}
 use Rattle.documents.specs.Layout.{after_in, form_of}
 use Rattle.documents.proofs.WalkLaws.{Good, form_accepts}
 use Rattle.documents.proofs.LayoutLaws.{number_small}
-use Rattle.reader.specs.Walk.{Numbers}
+use Rattle.std.specs.Prelude.{Some, Ok}
 use Rattle.reader.specs.Answer.{unpacked, settlement_read}
 use Rattle.reader.proofs.Facts.{unpacked_shape, settlement_shape}
 use Rattle.labels.specs.declared.places.Layout.{Layout}
@@ -44,7 +44,7 @@ use Rattle.layouts.proofs.AnswerLaws.{by_ticket, by_settlement}
 use Rattle.layouts.proofs.Tidy.{tight_at, tight_to, squeezed_text}
 
 -- One digit more.
-digit_step : (v : ℕ) (seen : Bool) (d : ℕ) → d < 10 → 10 * v + d < 65536 → step_of v seen (digit d) ≡ More (10 * v + d)
+digit_step : (v : ℕ) (seen : Bool) (d : ℕ) → d < 10 → 10 * v + d < 65536 → step_of v seen (digit d) ≡ Some (More (10 * v + d))
 digit_step v seen d h b =
     let e : 48 + d - 48 ≡ d = omega arith in
     rw (le-leb 48 (48 + d) (omega arith), le-leb (48 + d) 57 (omega arith), e, lt-ltb (10 * v + d) 65536 b)
@@ -290,7 +290,7 @@ good_small p s (x ∷ xs) g zero = omega (arith, number_small p s x g.0)
 good_small p s (x ∷ xs) g (suc i) = good_small p (after_in p s x) xs g.1 i
 
 -- A ticket that was unpacked, and written as text, is read again.
-pub ticket_read : (s xs : List ℕ) → unpacked s ≡ Numbers xs → document_in (document_text Ticket xs) ≡ DocumentIs Ticket xs
+pub ticket_read : (s xs : List ℕ) → unpacked s ≡ Ok xs → document_in (document_text Ticket xs) ≡ DocumentIs Ticket xs
 ticket_read s xs e =
     let h = unpacked_shape s xs e in
     let a = (form_accepts (form_of checks.Document.Ticket) bytes s xs e).0 in
@@ -298,7 +298,7 @@ ticket_read s xs e =
     (text_read Ticket xs (omega (arith, h.count)) h.few (good_small checks.Document.Ticket start xs a.good))
 
 -- So is a settlement.
-pub settlement_read_lem : (n m : ℕ) (s xs : List ℕ) → n ≤ 16 → m ≤ 16 → settlement_read n m s ≡ Numbers xs →
+pub settlement_read_lem : (n m : ℕ) (s xs : List ℕ) → n ≤ 16 → m ≤ 16 → settlement_read n m s ≡ Ok xs →
     document_in (document_text Settlement xs) ≡ DocumentIs Settlement xs
 settlement_read_lem n m s xs hn hm e =
     let h = settlement_shape n m s xs e in

@@ -11,9 +11,8 @@ use Rattle.ascii.specs.Writing.{Wrote}
 use Rattle.ascii.proofs.PageWriting.{wrote_nothing, wrote_then, wrote_part}
 use Rattle.pages.specs.Put.{Put}
 use Rattle.pages.proofs.PutLaws.{put_wrote}
-use Rattle.checks.specs.Refusals.{no_room}
-use Rattle.reader.specs.declared.Reply.{Reply}
-use Rattle.reader.specs.Walk.{Numbers}
+use Rattle.std.specs.Prelude.{Ok, Err}
+use Rattle.checks.specs.declared.refusals.Refusal.{Refusal}
 use Rattle.reader.specs.Answer.{Tells, kept}
 use Rattle.reader.proofs.Facts.{reply-with_room, reply_without_room, kept_without_room}
 use Rattle.reader.proofs.Telling.{tells}
@@ -47,18 +46,18 @@ module _ (text : List ℕ) {blank page : List ℕ} {end : ℕ} (w : Wrote blank 
   front_is = let e : end - 0 ≡ end = omega arith in rw e at (wrote_part w fits)
 
   module _ (lent : List ℕ) where
-    pub told_short : length lent < end → Tells (Reply.Refused no_room) (length lent) (Numbers text) × (lent ≡ kept lent (Numbers text))
+    pub told_short : length lent < end → Tells (Err Refusal.NoRoom) (length lent) (Ok text) × (lent ≡ kept lent (Ok text))
     told_short h = (
-      tells _ (length lent) (Numbers text) (sym (reply_without_room (length lent) text (omega (arith, w.ends)))),
+      tells _ (length lent) (Ok text) (sym (reply_without_room (length lent) text (omega (arith, w.ends)))),
       sym (kept_without_room lent text (omega (arith, w.ends))),
     )
 
     pub told_copied : {after : List ℕ} {place : ℕ} → end ≤ length lent → Put lent after 0 place (take end page) →
-        Tells (Reply.Done end) (length lent) (Numbers text) × (after ≡ kept lent (Numbers text))
+        Tells (Ok end) (length lent) (Ok text) × (after ≡ kept lent (Ok text))
     told_copied {after} {place} h p =
         let long : length text ≤ length lent = omega (arith, w.ends) in
         let e : end ≡ length text = omega (arith, w.ends) in
         let c = put_wrote (rw front_is at p) (omega arith) in (
-          tells _ (length lent) (Numbers text) (ap Reply.Done e ∙ sym (reply-with_room (length lent) text long)),
+          tells _ (length lent) (Ok text) (ap (λ (k : ℕ). Ok k) e ∙ sym (reply-with_room (length lent) text long)),
           rw (le-leb (length text) (length lent) long) c.stored,
         )

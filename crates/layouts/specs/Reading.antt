@@ -1,6 +1,6 @@
 -- What a text is read as: the numbers of a document, each after its label; or a plain list of numbers; or the line that is wrong.
 -- Assumes nothing.
-use Rattle.std.specs.Prelude.{ℕ, zero, suc, ◌+◌, ◌-◌, ◌*◌, Bool, true, false, cond, ◌&&◌, List, [], ◌∷◌, ◌++◌, eqb, ltb, length, get_or, drop}
+use Rattle.std.specs.Prelude.{ℕ, zero, suc, Option, Some, None, ◌+◌, ◌-◌, ◌*◌, Bool, true, false, cond, ◌&&◌, List, [], ◌∷◌, ◌++◌, eqb, ltb, length, get_or, drop}
 use Rattle.ascii.specs.Texts.{codes}
 use Rattle.lists.specs.NumberText as plain
 use Rattle.lists.specs.NumberText.{within}
@@ -8,7 +8,7 @@ use Rattle.labels.specs.declared.places.Layout.{Layout}
 use Rattle.labels.specs.declared.places.Layout.TheVariants.{Ticket, Settlement}
 use Rattle.labels.specs.Words.{label}
 use Rattle.layouts.specs.declared.reading.Step.{Step}
-use Rattle.layouts.specs.declared.reading.Step.TheVariants.{More, Ends, Stop}
+use Rattle.layouts.specs.declared.reading.Step.TheVariants.{More, Ends}
 use Rattle.layouts.specs.Text.{growers_in, pilots_in}
 use Rattle.layouts.specs.Squeezed.{most_text, squeezed, line_at}
 
@@ -24,16 +24,16 @@ pub data NumberRead : Type 0 where
   NumberIs : ℕ → List ℕ → NumberRead
 
 -- A byte after digits of the value v, if there were any: one digit more, the blank, or neither.
-abbrev pub grown : ℕ → Step
-grown x = cond (ltb x 65536) (More x) Stop
+abbrev pub grown : ℕ → Option Step
+grown x = cond (ltb x 65536) (Some (More x)) None
 
-abbrev pub step_of : ℕ → Bool → ℕ → Step
-step_of v seen b = cond (within 48 57 b) (grown (10 * v + (b - 48))) (cond (seen && eqb b 32) Ends Stop)
+abbrev pub step_of : ℕ → Bool → ℕ → Option Step
+step_of v seen b = cond (within 48 57 b) (grown (10 * v + (b - 48))) (cond (seen && eqb b 32) (Some Ends) None)
 
-abbrev pub after_step : Step → ℕ → List ℕ → (ℕ → NumberRead) → NumberRead
-after_step (More x) v rest go = go x
-after_step Ends v rest go = NumberIs v rest
-after_step Stop v rest go = NoNumber
+abbrev pub after_step : Option Step → ℕ → List ℕ → (ℕ → NumberRead) → NumberRead
+after_step (Some (More x)) v rest go = go x
+after_step (Some Ends) v rest go = NumberIs v rest
+after_step None v rest go = NoNumber
 
 unfoldable pub digits_read : ℕ → Bool → List ℕ → NumberRead
 digits_read v seen [] = NoNumber

@@ -1,11 +1,9 @@
 -- A text without its comments, and with one blank after each word.
 -- Assumes nothing.
-use Rattle.std.specs.Prelude.{ℕ, ◌+◌, ◌-◌, Bool, false, cond, List, [], ◌∷◌, ◌++◌, eqb}
+use Rattle.std.specs.Prelude.{ℕ, ◌+◌, ◌-◌, Bool, Option, Some, None, false, cond, List, [], ◌∷◌, ◌++◌, eqb}
 use Rattle.lists.specs.NumberText.{white}
 use Rattle.layouts.specs.declared.squeezing.Mode.{Mode}
 use Rattle.layouts.specs.declared.squeezing.Mode.TheVariants.{Gap, Word, Comment}
-use Rattle.layouts.specs.declared.squeezing.Output.{Output}
-use Rattle.layouts.specs.declared.squeezing.Output.TheVariants.{Nothing, Byte}
 
 -- The longest text that is read.
 abbrev pub most_text : ℕ
@@ -21,25 +19,25 @@ next_mode Word b = outside b
 next_mode Comment b = cond (eqb b 10) Gap Comment
 
 -- The byte itself if it is one of a word, else what is left.
-abbrev pub kept : Mode → ℕ → Output → Output
-kept Word b left = Byte b
+abbrev pub kept : Mode → ℕ → Option ℕ → Option ℕ
+kept Word b left = Some b
 kept Gap b left = left
 kept Comment b left = left
 
 -- What a byte leaves in the squeezed text: a word's bytes stay, and the first byte after a word becomes a blank.
-abbrev pub given : Mode → ℕ → Output
-given Gap b = kept (outside b) b Nothing
-given Word b = kept (outside b) b (Byte 32)
-given Comment b = Nothing
+abbrev pub given : Mode → ℕ → Option ℕ
+given Gap b = kept (outside b) b None
+given Word b = kept (outside b) b (Some 32)
+given Comment b = None
 
-abbrev pub last_of : Mode → Output
-last_of Gap = Nothing
-last_of Word = Byte 32
-last_of Comment = Nothing
+abbrev pub last_of : Mode → Option ℕ
+last_of Gap = None
+last_of Word = Some 32
+last_of Comment = None
 
-abbrev pub bytes_in : Output → List ℕ
-bytes_in Nothing = []
-bytes_in (Byte b) = b ∷ []
+abbrev pub bytes_in : Option ℕ → List ℕ
+bytes_in None = []
+bytes_in (Some b) = b ∷ []
 
 abbrev pub emitted : Mode → ℕ → List ℕ
 emitted mode b = bytes_in (given mode b)
@@ -51,14 +49,14 @@ squeeze_from mode (b ∷ rest) = emitted mode b ++ squeeze_from (next_mode mode 
 abbrev pub squeezed : List ℕ → List ℕ
 squeezed text = squeeze_from Gap text
 
--- Byte number k of what follows is the one that a byte leaves; and where it is counted from after it.
-abbrev pub is_here : Output → ℕ → Bool
-is_here Nothing k = false
-is_here (Byte b) k = eqb k 0
+-- Some number k of what follows is the one that a byte leaves; and where it is counted from after it.
+abbrev pub is_here : Option ℕ → ℕ → Bool
+is_here None k = false
+is_here (Some b) k = eqb k 0
 
-abbrev pub fewer : Output → ℕ → ℕ
-fewer Nothing k = k
-fewer (Byte b) k = k - 1
+abbrev pub fewer : Option ℕ → ℕ → ℕ
+fewer None k = k
+fewer (Some b) k = k - 1
 
 abbrev pub line_end : ℕ → ℕ
 line_end b = cond (eqb b 10) 1 0

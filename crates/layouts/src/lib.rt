@@ -7,5 +7,5 @@ mod squeezing;
 mod writing;
 
 pub use labels::{Layout, name};
-pub use reading::{TextRead, read};
+pub use reading::{TextError, TextRead, read};
 pub use writing::write;

@@ -7,18 +7,11 @@ use lists::white;
 use pages::put;
 
 // Where the next byte of a text stands: between words, in a word, or in a comment.
-#[derive(Clone, Copy)]
+#[derive(Clone, Copy, Debug, PartialEq, Eq)]
 pub(crate) enum Mode {
     Gap,
     Word,
     Comment,
-}
-
-// What a byte leaves of itself: nothing, or a byte of the squeezed text.
-#[derive(Clone, Copy)]
-pub(crate) enum Output {
-    Nothing,
-    Byte { value: u8 },
 }
 
 fn outside(b: u8) -> Mode
@@ -37,8 +30,7 @@ fn next_mode(mode: Mode, b: u8) -> Mode
     ensures { result ≡ next_mode mode b }
 {
     match mode {
-        Mode::Gap => outside(b),
-        Mode::Word => outside(b),
+        Mode::Gap | Mode::Word => outside(b),
         Mode::Comment => {
             if b == 10 {
                 return Mode::Gap;
@@ -49,49 +41,46 @@ fn next_mode(mode: Mode, b: u8) -> Mode
 }
 
 // The byte itself if it is one of a word, else what is left.
-fn kept(next: Mode, b: u8, left: Output) -> Output
+fn kept(next: Mode, b: u8, left: Option<u8>) -> Option<u8>
     ensures { result ≡ kept next b left }
 {
     match next {
-        Mode::Word => Output::Byte { value: b },
-        Mode::Gap => left,
-        Mode::Comment => left,
+        Mode::Word => Some(b),
+        Mode::Gap | Mode::Comment => left,
     }
 }
 
-fn given(mode: Mode, b: u8) -> Output
+// What a byte leaves of itself in the squeezed text.
+fn given(mode: Mode, b: u8) -> Option<u8>
     ensures { result ≡ given mode b }
 {
     match mode {
-        Mode::Gap => kept(outside(b), b, Output::Nothing),
-        Mode::Word => kept(outside(b), b, Output::Byte { value: 32 }),
-        Mode::Comment => Output::Nothing,
+        Mode::Gap => kept(outside(b), b, None),
+        Mode::Word => kept(outside(b), b, Some(b' ')),
+        Mode::Comment => None,
     }
 }
 
 // What the end of the text leaves.
-fn last(mode: Mode) -> Output
+fn last(mode: Mode) -> Option<u8>
     ensures { result ≡ last_of mode }
 {
     match mode {
-        Mode::Gap => Output::Nothing,
-        Mode::Word => Output::Byte { value: 32 },
-        Mode::Comment => Output::Nothing,
+        Mode::Word => Some(b' '),
+        Mode::Gap | Mode::Comment => None,
     }
 }
 
 // Puts a byte, if there is one, at a place.
-fn store(page: &mut [u8; 131072], at: usize, g: Output) -> usize
+fn store(page: &mut [u8; 131072], at: usize, g: Option<u8>) -> usize
     requires { at < 131072 }
     ensures { Wrote page.old page.new at result (bytes_in g) × (result ≤ at + 1) }
 {
-    match g {
-        Output::Nothing => at,
-        Output::Byte { value } => {
-            page[at] = value;
-            at + 1
-        }
-    }
+    let Some(value) = g else {
+        return at;
+    };
+    page[at] = value;
+    at + 1
 }
 
 // Writes a text squeezed at the front of a page, and returns how long it is. The page has one byte more than the longest text.
@@ -101,42 +90,29 @@ pub(crate) fn squeeze(text: &[u8], page: &mut [u8; 131072]) -> usize
 {
     let mut mode = Mode::Gap;
     let mut count: usize = 0;
-    for k in 0..text.len() {
-        let b = text[k];
+    for &b in text {
         count = store(page, count, given(mode, b));
-        let next = next_mode(mode, b);
-        mode = next;
+        mode = next_mode(mode, b);
     }
     store(page, count, last(mode))
 }
 
-fn is_here(g: Output, k: usize) -> bool
+fn is_here(g: Option<u8>, k: usize) -> bool
     ensures { result ≡ is_here g k }
 {
-    match g {
-        Output::Nothing => false,
-        Output::Byte { value: _ } => k == 0,
-    }
+    g.is_some() && k == 0
 }
 
-fn fewer(g: Output, k: usize) -> usize
+fn fewer(g: Option<u8>, k: usize) -> usize
     ensures { result ≡ fewer g k }
 {
-    match g {
-        Output::Nothing => k,
-        Output::Byte { value: _ } => {
-            if k == 0 {
-                return 0;
-            }
-            k - 1
-        }
-    }
+    if g.is_some() { k.saturating_sub(1) } else { k }
 }
 
 fn line_end(b: u8) -> usize
     ensures { (result ≡ line_end b) × (result < 2) }
 {
-    if b == 10 { 1 } else { 0 }
+    usize::from(b == b'\n')
 }
 
 // The line of the byte that left byte number k of the squeezed text, or the last line.
@@ -147,16 +123,14 @@ pub(crate) fn line_of(text: &[u8], k: usize) -> usize
     let mut mode = Mode::Gap;
     let mut line: usize = 1;
     let mut left = k;
-    for j in 0..text.len() {
-        let b = text[j];
+    for &b in text {
         let g = given(mode, b);
         if is_here(g, left) {
             return line;
         }
         left = fewer(g, left);
         line += line_end(b);
-        let next = next_mode(mode, b);
-        mode = next;
+        mode = next_mode(mode, b);
     }
     line
 }

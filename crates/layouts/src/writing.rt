@@ -1,7 +1,6 @@
 // The text of a document's list.
-ghost use Rattle.std.specs.Prelude.{◌≡◌, ◌||◌, suc, ◌+◌, ◌<◌, ◌≤◌, leb, length};
+ghost use Rattle.std.specs.Prelude.{Ok, ◌≡◌, ◌||◌, suc, ◌+◌, ◌<◌, ◌≤◌, leb, length};
 ghost use Rattle.ascii.specs.Writing.{Wrote};
-ghost use Rattle.reader.specs.Walk.{Numbers};
 ghost use Rattle.reader.specs.Answer.{Tells, kept};
 ghost use Rattle.labels.specs.Words.{begins};
 ghost use Rattle.layouts.specs.Text.{longest, separator, entry_of, text_of, document_text, page_bytes, entry_bytes};
@@ -9,7 +8,7 @@ ghost use Rattle.layouts.specs.Text.{longest, separator, entry_of, text_of, docu
 use labels::{Layout, begins_line};
 use numbers::{entry, front};
 use pages::{put, put_number};
-use reader::{NO_ROOM, Reply};
+use reader::Refusal;
 
 // The numbers of the longest document.
 const LONGEST: usize = 1315;
@@ -33,10 +32,7 @@ fn ends_line(layout: Layout, growers: u16, pilots: u16, place: usize, count: usi
 fn put_separator(page: &mut [u8; 111775], at: usize, ends: bool) -> usize
     ensures { at + 1 ≤ page_bytes → Wrote page.old page.new at result (separator ends) × (result ≤ at + 1) }
 {
-    if ends {
-        return put(page, at, b"\n");
-    }
-    put(page, at, b" ")
+    put(page, at, &[if ends { b'\n' } else { b' ' }])
 }
 
 // A number with its label.
@@ -60,7 +56,7 @@ fn put_entry(
     put_separator(page, last, ends)
 }
 
-// All numbers of a list.
+// All numbers of a list. By index: the place of a number is in its label.
 fn fill(page: &mut [u8; 111775], layout: Layout, list: &[u16]) -> usize
     requires { length list.now ≤ longest }
     ensures { Wrote page.old page.new 0 result (text_of layout list.now) × (result ≤ page_bytes) }
@@ -76,15 +72,15 @@ fn fill(page: &mut [u8; 111775], layout: Layout, list: &[u16]) -> usize
 }
 
 // Writes the text of a document's list at the front of a lent buffer, and returns how long it is.
-pub fn write(layout: Layout, list: &[u16], text: &mut [u8]) -> Reply
-    ensures tells { Tells result (length text.old) (Numbers (document_text layout list.now)) }
-    ensures text_after { text.new ≡ kept text.old (Numbers (document_text layout list.now)) }
+pub fn write(layout: Layout, list: &[u16], text: &mut [u8]) -> Result<usize, Refusal>
+    ensures tells { Tells result (length text.old) (Ok (document_text layout list.now)) }
+    ensures text_after { text.new ≡ kept text.old (Ok (document_text layout list.now)) }
 {
     let mut own = page();
     let count = fill(&mut own, layout, front(list, LONGEST));
     if text.len() < count {
-        return Reply::Refused { why: NO_ROOM };
+        return Err(Refusal::NoRoom);
     }
     put(text, 0, ascii::front(&own, count));
-    Reply::Done { count }
+    Ok(count)
 }

@@ -1,5 +1,4 @@
 -- `layouts::reading::number_at` meets its contract: after the digits before k the number so far and what is left make the whole.
-use Prim.Native.Nat.{◌-◌}
 use Rattle.layouts.proofs.ReadingLaws.{Digits}
 use Rattle.layouts.proofs.reading.number_at.Given as goal
 

@@ -12,14 +12,14 @@ returns-then-text-at c = let i = c.loop-k.invariant in
 pub returns-in_default : goal.returns-in_default
 returns-in_default c = let i = c.loop-k in
     let named = c.front-named.ensures in
-    let got = rw (c.entry-growers.ensures, c.entry-pilots.ensures, named) at c.entry_at-got.ensures in
+    let got = rw (c.entry-growers.ensures, c.entry-pilots.ensures, named) at c.entry_at.ensures in
     record { walked_as = walking_stops i.invariant.1 (omega arith) (omega arith) (omega arith) (rw c.in_default.is at got); list_len_unchanged = i.invariant.2 }
 
 pub loop-k-preserved : goal.loop-k-preserved
 loop-k-preserved c = let i = c.loop-k in
     let named = c.front-named.ensures in
-    let got = rw (c.entry-growers.ensures, c.entry-pilots.ensures, named) at c.entry_at-got.ensures in
-    (omega arith, walking_turns i.invariant.1 (omega arith) (omega arith) (omega arith) _ _ (rw c.in-Number.is at got), length-set i.list i.k c.in-Number.value ∙ i.invariant.2)
+    let got = rw (c.entry-growers.ensures, c.entry-pilots.ensures, named) at c.entry_at.ensures in
+    (omega arith, walking_turns i.invariant.1 (omega arith) (omega arith) (omega arith) _ _ (rw c.in-Some.is at got), length-set i.list i.k c.in-Some.value ∙ i.invariant.2)
 
 pub returns : goal.returns
 returns c = record { walked_as = walking_full c.loop-k.invariant.1 (omega arith); list_len_unchanged = c.loop-k.invariant.2 }

@@ -1,5 +1,5 @@
 -- `layouts::reading::walk` meets its contract: after k turns the numbers that are left, read from here on, make the whole.
-use Prim.Native.Nat.{◌-◌, ◌≤◌}
+use Prim.Native.Nat.{◌≤◌}
 use mathlib.Core.Path.{◌≡◌}
 use lib.ListN.{length}
 use Rattle.layouts.proofs.WalkLaws.{Walking}

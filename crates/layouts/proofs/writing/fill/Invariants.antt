@@ -1,5 +1,5 @@
 -- `layouts::writing::fill` meets its contract: after k turns the text of the first k numbers stands in the page.
-use Prim.Native.Nat.{◌-◌, ◌≤◌}
+use Prim.Native.Nat.{◌≤◌}
 use Rattle.layouts.proofs.WritingLaws.{Filling}
 use Rattle.layouts.proofs.writing.fill.Given as goal
 
