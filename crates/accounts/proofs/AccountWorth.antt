@@ -1,6 +1,7 @@
 -- An account that is not refused hands out what the hours of its settlement are worth, and no more.
 -- Assumes nothing.
-use Rattle.std.specs.Prelude.{Ok}
+use Rattle.std.specs.Prelude.{Result, Ok}
+use Rattle.checks.specs.declared.refusals.Refusal.{Refusal}
 use Prim.Native.Nat.{ℕ, ◌+◌, ◌*◌}
 use mathlib.Core.Path.{◌≡◌, refl, sym, ap, ap₂, ◌∙◌}
 use mathlib.Core.List.{List}
@@ -19,7 +20,7 @@ use Rattle.verdicts.specs.Values.{verdict_number}
 use Rattle.marker.specs.Marked.{marked}
 use Rattle.marker.proofs.Marking.{marked_sound_exactly}
 use Rattle.accounts.specs.declared.listing.Account.{Account}
-use Rattle.accounts.specs.Accounted.{account_numbers, gain_at, pay_at, padded, account_in, outcome_by}
+use Rattle.accounts.specs.Accounted.{account_numbers, gain_at, pay_at, padded, listing, account_in, outcome_by}
 use Rattle.accounts.specs.Accounted.{ticket_numbers, settlement_numbers, accounted}
 use Rattle.accounts.proofs.ListLaws.{account_length, gain_listed_lem, pay_listed_lem}
 
@@ -33,13 +34,13 @@ numbers_hand_out t x f =
     ∙ account_total t x f
 
 -- an account by a verdict that is not refused, of a settlement that is feasible if the verdict is sound
-by_verdict : (t : Ticket) (x : Settlement) (v : Verdict) (count : ℕ) → (verdict_number v ≡ 1 → Feasible t x) →
-    (account_in (outcome_by v (account_numbers t x))).reply ≡ Ok count →
-    (count ≡ t.growers + 2 * t.pilots) × HandsOut t x (account_in (outcome_by v (account_numbers t x))).list
+by_verdict : (t : Ticket) (x : Settlement) (v : Verdict) (account : Account) → (verdict_number v ≡ 1 → Feasible t x) →
+    account_in (outcome_by v (account_numbers t x)) ≡ Ok account →
+    (account.count ≡ t.growers + 2 * t.pilots) × HandsOut t x account.list
 by_verdict t x (Refused w) count f e = never cc
-by_verdict t x (Sound k w) count f e =
-    let counted : length (account_numbers t x) ≡ count = cc in
-    (sym counted ∙ account_length t x, numbers_hand_out t x (f refl))
+by_verdict t x (Sound k w) account f e =
+    let same : listing (account_numbers t x) ≡ account = cc in
+    rw (← same) (account_length t x, numbers_hand_out t x (f refl))
 by_verdict t x (TariffOverCap i j) count f e = never cc
 by_verdict t x (FreeOverCap i j) count f e = never cc
 by_verdict t x (WrongPay i j) count f e = never cc
@@ -49,12 +50,12 @@ by_verdict t x (Idle i j d k) count f e = never cc
 by_verdict t x (Blocks i j d k) count f e = never cc
 
 -- what `account` returns, if it is not a refusal
-pub account_worth : (ticket settlement : List ℕ) (a : Account) (count : ℕ) → a ≡ accounted ticket settlement → a.reply ≡ Ok count →
-    let t = ticket_of (ticket_numbers ticket) in
-    (count ≡ t.growers + 2 * t.pilots) × HandsOut t (settlement_of (settlement_numbers ticket settlement)) a.list
-account_worth ticket settlement a count e done =
-    rw e (by_verdict (ticket_of (ticket_numbers ticket)) (settlement_of (settlement_numbers ticket settlement)) (marked ticket settlement) count
-    feasible (ap (λ (b : Account). b.reply) (sym e) ∙ done))
+pub account_worth : (ticket settlement : List ℕ) (r : Result Account Refusal) (account : Account) → r ≡ accounted ticket settlement →
+    r ≡ Ok account → let t = ticket_of (ticket_numbers ticket) in
+    (account.count ≡ t.growers + 2 * t.pilots) × HandsOut t (settlement_of (settlement_numbers ticket settlement)) account.list
+account_worth ticket settlement r account e done =
+    by_verdict (ticket_of (ticket_numbers ticket)) (settlement_of (settlement_numbers ticket settlement)) (marked ticket settlement) account
+    feasible (sym e ∙ done)
   where
     feasible : verdict_number (marked ticket settlement) ≡ 1 →
         Feasible (ticket_of (ticket_numbers ticket)) (settlement_of (settlement_numbers ticket settlement))

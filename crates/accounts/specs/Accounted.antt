@@ -1,15 +1,16 @@
 -- The account of a ticket's bytes and a settlement's: what each grower gains, then pilot by pilot what he is paid and the commission on
 -- it. What marking refuses is refused with the same number, and then a settlement that is not sound.
 -- Assumes nothing.
-use Rattle.std.specs.Prelude.{Ok, Err}
+use Rattle.std.specs.Prelude.{Result, Ok, Err}
 use Rattle.std.specs.Prelude.{ℕ, zero, suc, ◌+◌, ◌*◌, ◌-◌, List, [], ◌∷◌, ◌++◌, length, get_or, replicate}
 use Rattle.market.specs.Market.{Ticket, Settlement}
 use Rattle.market.specs.Accounts.{grower_gain, pilot_pay}
 use Rattle.commission.specs.Bands.{commission}
-use Rattle.checks.specs.Refusals.{not_sound}
+use Rattle.checks.specs.declared.refusals.Refusal.{Refusal}
+use Rattle.checks.specs.Refusals.{number_of}
 use Rattle.reader.specs.Walk.{Outcome}
 use Rattle.reader.specs.Values.{Values, refused_with, done_with}
-use Rattle.reader.specs.Answer.{unpacked, settlement_read, counted}
+use Rattle.reader.specs.Answer.{unpacked, settlement_read}
 use Rattle.verdicts.specs.declared.Verdict.{Verdict}
 use Rattle.verdicts.specs.declared.Verdict.TheVariants.{Refused, Sound, TariffOverCap, FreeOverCap, WrongPay}
 use Rattle.verdicts.specs.declared.Verdict.TheVariants.{GrowerOverHours, PilotOverHours, Idle, Blocks}
@@ -53,31 +54,40 @@ places = 48
 abbrev pub padded : List ℕ → List ℕ
 padded xs = xs ++ replicate (places - length xs) 0
 
+-- the account that lists them
+abbrev pub listing : List ℕ → Account
+listing xs = record { count = length xs; list = padded xs }
+
 -- the numbers of an outcome, none where it is a refusal
 abbrev pub numbers_in : Outcome → List ℕ
 numbers_in (Err w) = []
 numbers_in (Ok xs) = xs
 
 -- of the numbers, or of a refusal
-abbrev pub account_in : Outcome → Account
-account_in o = record { reply = counted o; list = padded (numbers_in o) }
+abbrev pub account_in : Outcome → Result Account Refusal
+account_in (Err w) = Err w
+account_in (Ok xs) = Ok (listing xs)
 
--- its reply on paper
+-- the same on paper
+abbrev pub account_values : Result Account Refusal → Values
+account_values (Err w) = refused_with (number_of w)
+account_values (Ok account) = done_with account.count
+
 abbrev pub values_in : Outcome → Values
-values_in (Err w) = refused_with w
+values_in (Err w) = refused_with (number_of w)
 values_in (Ok xs) = done_with (length xs)
 
 -- The numbers xs if the verdict on the settlement is sound.
 abbrev pub outcome_by : Verdict → List ℕ → Outcome
 outcome_by (Refused why) xs = Err why
 outcome_by (Sound count worth) xs = Ok xs
-outcome_by (TariffOverCap i j) xs = Err not_sound
-outcome_by (FreeOverCap i j) xs = Err not_sound
-outcome_by (WrongPay i j) xs = Err not_sound
-outcome_by (GrowerOverHours i) xs = Err not_sound
-outcome_by (PilotOverHours j) xs = Err not_sound
-outcome_by (Idle i j d count) xs = Err not_sound
-outcome_by (Blocks i j d count) xs = Err not_sound
+outcome_by (TariffOverCap i j) xs = Err Refusal.NotSound
+outcome_by (FreeOverCap i j) xs = Err Refusal.NotSound
+outcome_by (WrongPay i j) xs = Err Refusal.NotSound
+outcome_by (GrowerOverHours i) xs = Err Refusal.NotSound
+outcome_by (PilotOverHours j) xs = Err Refusal.NotSound
+outcome_by (Idle i j d count) xs = Err Refusal.NotSound
+outcome_by (Blocks i j d count) xs = Err Refusal.NotSound
 
 -- From files.
 
@@ -93,7 +103,7 @@ account_outcome ticket settlement =
     outcome_by (marked ticket settlement)
     (account_numbers (ticket_of (ticket_numbers ticket)) (settlement_of (settlement_numbers ticket settlement)))
 
-abbrev pub accounted : List ℕ → List ℕ → Account
+abbrev pub accounted : List ℕ → List ℕ → Result Account Refusal
 accounted ticket settlement = account_in (account_outcome ticket settlement)
 
 abbrev pub accounted_values : List ℕ → List ℕ → Values

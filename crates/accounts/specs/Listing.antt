@@ -1,6 +1,7 @@
 -- What the steps between files and their account know and leave.
 -- Assumes nothing.
-use Rattle.std.specs.Prelude.{Ok, Err}
+use Rattle.std.specs.Prelude.{Result, Ok, Err}
+use Rattle.checks.specs.declared.refusals.Refusal.{Refusal}
 use Rattle.std.specs.Prelude.{ℕ, ◌≡◌, List, ◌++◌, length}
 use Rattle.market.specs.Market as market
 use Rattle.reader.specs.Walk.{Outcome}
@@ -22,6 +23,6 @@ pub record SoundFor (xs settlement : List ℕ) : Type 0 where
   pub sound : market.Sound (ticket_of xs) (settlement_of answer)
 
 -- the account of a ticket's numbers and of what was read of a settlement
-abbrev pub account_of : List ℕ → Outcome → Account
+abbrev pub account_of : List ℕ → Outcome → Result Account Refusal
 account_of xs (Err w) = account_in (Err w)
 account_of xs (Ok ys) = account_in (Ok (account_numbers (ticket_of xs) (settlement_of ys)))

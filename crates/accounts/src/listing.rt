@@ -4,12 +4,10 @@ ghost use Rattle.accounts.specs.Accounted.{cents_of, each, gain_listed, pay_list
 ghost use Rattle.accounts.specs.Earnings.{most_earned, Small};
 ghost use Rattle.accounts.specs.Listing.{Listed};
 
-use reader::Reply;
-
-// The refusal, or how many numbers are listed; and the list, with zeros after them.
+// How many numbers are listed; and the list, with zeros after them.
 #[derive(Clone, Copy)]
 pub struct Account {
-    pub reply: Reply,
+    pub count: usize,
     pub list: [u32; 48],
 }
 

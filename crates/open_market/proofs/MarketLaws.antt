@@ -1,6 +1,8 @@
 -- What holds of every open market: opened from a ticket it holds it, and every call keeps that.
 -- Assumes nothing.
-use Rattle.std.specs.Prelude.{Ok}
+use Rattle.std.specs.Prelude.{Result, Ok, Err}
+use Rattle.checks.specs.declared.refusals.Refusal.{Refusal}
+use Rattle.checks.specs.Refusals.{Checked}
 use Prim.Native.Nat.{ℕ, min}
 use mathlib.Core.Logic.{⊎_elim}
 use mathlib.Core.Path.{◌≡◌, refl, sym, subst, ap, ◌∙◌}
@@ -25,9 +27,9 @@ use Rattle.settler.proofs.SettlementNumbers.{itself, front_means, nobody_left, s
 use Rattle.free_hours.specs.FreeHours.{AreFree}
 use Rattle.free_hours.proofs.FreeLaws.{free-same}
 use Rattle.open_market.specs.declared.held.Market.{Market}
-use Rattle.open_market.specs.declared.held.Answer.{Answer}
 use Rattle.ticket_calls.specs.Calls.{Call, refusal_of, after, after_all}
-use Rattle.open_market.specs.Markets.{IsSettled, Opened, Called, Reached, Holds}
+use Rattle.open_market.specs.Markets.{IsSettled, Answered, Opened, Called, market_after, Reached, Holds}
+use Rattle.ticket_calls.proofs.RefusalLaws.{after_refused}
 use Rattle.ticket_calls.proofs.Fronts.{front_growers, front_pilots, front_same}
 use Rattle.ticket_calls.proofs.InFront.{InFront, after_in-front, written_in_front}
 
@@ -37,29 +39,36 @@ pub record Holding (xs : List ℕ) (market : Market) : Type 0 where
   pub settled : IsSettled market
 
 -- A call.
-call_holding : (c : Call) (xs : List ℕ) (market : Market) (r : Answer) → Holding xs market → Called c market r → Holding (after c xs) r.market
-call_holding c xs market r holding called = record {
-  ticket = subst (InFront (after c xs)) (sym called.ticket) (after_in-front c xs market.ticket holding.ticket);
-  settled = ⊎_elim
-      (λ e. called.settled e)
-      (λ e. subst IsSettled (sym (called.kept (omega (arith, e)))) holding.settled)
-      (eq_or_ne (refusal_of c market.ticket) 0);
-}
+call_holding : (c : Call) (xs : List ℕ) (market : Market) (r : Result Market Refusal) → Holding xs market → Called c market r →
+    Holding (after c xs) (market_after r market)
+call_holding c xs market r holding called = go (refusal_of c market.ticket) refl called
+  where
+    front : InFront (after c xs) (after c market.ticket)
+    front = after_in-front c xs market.ticket holding.ticket
+
+    go : (w : Checked) → refusal_of c market.ticket ≡ w → Answered w (after c market.ticket) r →
+        Holding (after c xs) (market_after r market)
+    go (Ok _) e a = subst (λ (q : Result Market Refusal). Holding (after c xs) (market_after q market)) (sym a.1)
+        (record { ticket = subst (InFront (after c xs)) (sym a.2.ticket_held) front; settled = a.2.market })
+    go (Err w) e a = subst (λ (q : Result Market Refusal). Holding (after c xs) (market_after q market)) (sym a)
+        (record { ticket = subst (InFront (after c xs)) (after_refused c market.ticket w e) front; settled = holding.settled })
 
 reached_holding : (cs : List Call) (xs : List ℕ) (market last : Market) → Holding xs market → Reached market cs last →
     Holding (after_all cs xs) last
 reached_holding [] xs market last h e = subst (Holding xs) e h
 reached_holding (c ∷ cs) xs market last h r =
-    reached_holding cs (after c xs) r.0.market last (call_holding c xs market r.0 h r.1) r.2
+    reached_holding cs (after c xs) (market_after r.0 market) last (call_holding c xs market r.0 h r.1) r.2
 
 -- Opening.
-opened_holding : (file xs zeros : List ℕ) (r : Answer) → zeros ≡ replicate 1315 0 → unpacked file ≡ Ok xs → Opened file r →
-    Holding xs r.market
-opened_holding file xs zeros r z e opened =
+opened_holding : (file xs zeros : List ℕ) (market : Market) → zeros ≡ replicate 1315 0 → unpacked file ≡ Ok xs → Opened file (Ok market) →
+    Holding xs market
+opened_holding file xs zeros market z e opened =
     let o = rw e at opened in
+    let same : o.0 ≡ market = let f = o.1 in cc in
     let long : length zeros ≡ 1315 = ap length z ∙ length-replicate {A = ℕ} 1315 0 in
-    let t : r.market.ticket ≡ sets zeros 0 xs = o.ticket_held ∙ ap (λ (l : List ℕ). sets l 0 xs) (sym z) in
-    record { ticket = written_in_front xs zeros r.market.ticket (unpacked_passing file xs e) long t; settled = o.market }
+    let t : o.0.ticket ≡ sets zeros 0 xs = o.2.ticket_held ∙ ap (λ (l : List ℕ). sets l 0 xs) (sym z) in
+    subst (Holding xs) same
+    (record { ticket = written_in_front xs zeros o.0.ticket (unpacked_passing file xs e) long t; settled = o.2.market })
 
 settlement_itself : (t : Ticket) (x : Settlement) → SameSettlement t x x
 settlement_itself t x = record { hours = λ d i j hi hj. refl; pay = λ i j hi hj. refl }
@@ -120,7 +129,7 @@ module _ (xs : List ℕ) (market : Market) (h : Holding xs market) where
   }
 
 -- For every market that was opened from a ticket and every list of calls on it.
-pub always_holds : (file xs : List ℕ) (opened : Answer) (cs : List Call) (last : Market) → unpacked file ≡ Ok xs → Opened file opened →
-    Reached opened.market cs last → Holds (after_all cs xs) last
+pub always_holds : (file xs : List ℕ) (opened : Market) (cs : List Call) (last : Market) → unpacked file ≡ Ok xs → Opened file (Ok opened) →
+    Reached opened cs last → Holds (after_all cs xs) last
 always_holds file xs opened cs last e o r =
-    holding_holds (after_all cs xs) last (reached_holding cs xs opened.market last (opened_holding file xs _ opened refl e o) r)
+    holding_holds (after_all cs xs) last (reached_holding cs xs opened last (opened_holding file xs _ opened refl e o) r)

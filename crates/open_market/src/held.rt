@@ -1,4 +1,4 @@
-// What is held, and what a call answers.
+// What is held.
 ghost use Rattle.open_market.specs.Markets.{Settled};
 
 use free_hours::of_side;
@@ -14,25 +14,17 @@ pub struct Market {
     pub pilot_free_hours: [u16; 16],
 }
 
-// What opening or a call comes to: the refusal, 0 if there is none, and the market after it.
-#[derive(Clone, Copy)]
-pub struct Answer {
-    pub refusal: u8,
-    pub market: Market,
-}
-
-// The answer to what is not refused: the ticket, a settlement of it, and the free hours that this leaves.
-pub(crate) fn settled(ticket: [u16; 1315]) -> Answer
+// What is not refused: the ticket, a settlement of it, and the free hours that this leaves.
+pub(crate) fn settled(ticket: [u16; 1315]) -> Market
     ensures { Settled ticket result }
 {
     let settlement = settler::settle_list(&ticket);
     let grower_free_hours = of_side(&ticket, &settlement, Side::Growers);
     let pilot_free_hours = of_side(&ticket, &settlement, Side::Pilots);
-    let market = Market {
+    Market {
         ticket,
         settlement,
         grower_free_hours,
         pilot_free_hours,
-    };
-    Answer { refusal: 0, market }
+    }
 }

@@ -7,7 +7,7 @@ mod opening;
 mod replaying;
 
 pub use calls::{set_grower_hours, set_pair, set_pilot_hours};
-pub use held::{Answer, Market};
+pub use held::Market;
 pub use offers::Terms;
 pub use opening::open;
 pub use replaying::replay;

@@ -1,29 +1,14 @@
 // A market opened from a ticket's file.
 ghost use Rattle.open_market.specs.Markets.{Opened};
 
-use crate::held::{Answer, Market, settled};
-use reader::Reply;
+use crate::held::{Market, settled};
+use checks::Refusal;
 
-// Opens a market. A ticket that is refused opens that of nobody.
-pub fn open(file: &[u8]) -> Answer
+// Opens a market. A ticket that is refused opens none.
+pub fn open(file: &[u8]) -> Result<Market, Refusal>
     ensures { Opened file.now result }
 {
     let mut ticket = numbers::ticket_list();
-    let reply = reader::unpack(file, &mut ticket);
-    match reply {
-        Reply::Refused { why } => {
-            let settlement = numbers::settlement_list();
-            let market = Market {
-                ticket,
-                settlement,
-                grower_free_hours: [0; 16],
-                pilot_free_hours: [0; 16],
-            };
-            Answer {
-                refusal: why,
-                market,
-            }
-        }
-        Reply::Done { count: _ } => settled(ticket),
-    }
+    reader::unpack(file, &mut ticket)?;
+    Ok(settled(ticket))
 }

@@ -1,26 +1,15 @@
 // A list of calls, eight numbers each, done one after another.
 ghost use Rattle.std.specs.Prelude.{◌≡◌, ◌+◌, ◌/◌, ◌≤◌, get_or, length};
-ghost use Rattle.ticket_calls.specs.Calls.{NoCall};
 ghost use Rattle.open_market.specs.Lists.{terms_at, call_of, call_from};
 ghost use Rattle.open_market.specs.Markets.{Called, Next, Replayed};
 
 use crate::calls::{set_grower_hours, set_pair, set_pilot_hours};
-use crate::held::{Answer, Market};
-use checks::AGAINST_LIMITS;
+use crate::held::Market;
+use checks::Refusal;
 use offers::Terms;
 
 // How many numbers a call has.
 const CALL: usize = 8;
-
-// What is no call changes nothing.
-fn no_call(market: Market) -> Answer
-    ensures { Called NoCall market result }
-{
-    Answer {
-        refusal: AGAINST_LIMITS,
-        market,
-    }
-}
 
 // The five numbers from a place on.
 fn terms_at(calls: &[u16], at: usize) -> Terms
@@ -37,7 +26,7 @@ fn terms_at(calls: &[u16], at: usize) -> Terms
 }
 
 // The call whose eight numbers begin at a place.
-fn whole_call(market: Market, calls: &[u16], at: usize) -> Answer
+fn whole_call(market: Market, calls: &[u16], at: usize) -> Result<Market, Refusal>
     requires { at + 8 ≤ length calls.now }
     ensures { Called (call_of (get_or calls.now at 0) calls.now at) market result }
 {
@@ -48,33 +37,35 @@ fn whole_call(market: Market, calls: &[u16], at: usize) -> Answer
         1 => set_grower_hours(market, one, two),
         2 => set_pilot_hours(market, one, two),
         3 => set_pair(market, one, two, terms_at(calls, at + 3)),
-        _ => no_call(market),
+        _ => Err(Refusal::AgainstLimits),
     }
 }
 
 // The same where the list may end too early.
-fn call_from(market: Market, calls: &[u16], at: usize) -> Answer
+fn call_from(market: Market, calls: &[u16], at: usize) -> Result<Market, Refusal>
     requires { at ≤ length calls.now }
     ensures { Called (call_from calls.now at) market result }
 {
     if calls.len() - at < CALL {
-        return no_call(market);
+        return Err(Refusal::AgainstLimits);
     }
     whole_call(market, calls, at)
 }
 
-// One call more, after others: the first refusal stays.
-fn call_next(before: Answer, calls: &[u16], at: usize) -> Answer
+// One call more, after others: the first refusal stays, and a refused call leaves the market.
+fn call_next(
+    before: Result<(), Refusal>,
+    market: Market,
+    calls: &[u16],
+    at: usize,
+) -> (Result<(), Refusal>, Market)
     requires { at ≤ length calls.now }
-    ensures { Next (call_from calls.now at) before result }
+    ensures { Next (call_from calls.now at) before market result.0 result.1 }
 {
-    let refusal = before.refusal;
-    let answer = call_from(before.market, calls, at);
-    if refusal == 0 {
-        return answer;
+    match call_from(market, calls, at) {
+        Ok(next) => (before, next),
+        Err(why) => (before.and(Err(why)), market),
     }
-    let market = answer.market;
-    Answer { refusal, market }
 }
 
 // How many calls a list has. One that is cut short counts.
@@ -88,15 +79,17 @@ fn count(calls: &[u16]) -> usize
     whole + 1
 }
 
-// Does the calls of a list, and answers the first refusal among them.
-pub fn replay(market: Market, calls: &[u16]) -> Answer
-    ensures { Replayed market calls.now result }
+// Does the calls of a list. Answers the first refusal among them, and the market after all.
+pub fn replay(market: Market, calls: &[u16]) -> (Result<(), Refusal>, Market)
+    ensures { Replayed market calls.now result.0 result.1 }
 {
     let end = count(calls);
-    let mut answer = Answer { refusal: 0, market };
+    let mut first = Ok(());
+    let mut last = market;
     for k in 0..end {
-        let next = call_next(answer, calls, CALL * k);
-        answer = next;
+        let (refusal, next) = call_next(first, last, calls, CALL * k);
+        first = refusal;
+        last = next;
     }
-    answer
+    (first, last)
 }

@@ -10,7 +10,6 @@ use native.Mathlib.Omega.{arith}
 use lib.ListN.{length, take, drop}
 use lib.Seq.{take_at, drop-append_seam}
 use Rattle.grid.proofs.Cases.{lt_or_le, never}
-use Rattle.checks.specs.Refusals.{no_room}
 use Rattle.reader.specs.Answer.{unpacked, settlement_read, settlement_packed, reply, kept}
 use Rattle.reader.proofs.Facts.{unpacked_shape, settlement-packed_read, reply-with_room, kept-with_room, reply_refused}
 use Rattle.reader.proofs.Telling.{refuses, counts}
@@ -71,13 +70,13 @@ written_answers xs list own lent after r growers pilots pairs f eg ep e cut room
     same = rw (eg, ep, cut)
 
 pub room_answers : (xs lent : List ℕ) (growers pilots pairs : ℕ) → growers ≡ growers_of xs → pilots ≡ pilots_of xs →
-    pairs ≡ growers * pilots → length lent < 3 + 4 * pairs → AnswersNumbers xs lent lent (Err no_room)
+    pairs ≡ growers * pilots → length lent < 3 + 4 * pairs → AnswersNumbers xs lent lent (Err Refusal.NoRoom)
 room_answers xs lent growers pilots pairs eg ep e h ticket _ =
     let count : pairs ≡ growers_of xs * pilots_of xs = e ∙ rw (eg, ep) in
-    record { short = λ _. (refuses _ no_room refl, refl); settled = λ l. absurd (omega (arith, count)) }
+    record { short = λ _. (refuses _ Refusal.NoRoom refl, refl); settled = λ l. absurd (omega (arith, count)) }
 
 -- From the ticket's bytes: what was refused, and what was unpacked.
-pub refused_settles : (s zeros lent : List ℕ) (w : ℕ) → length zeros ≡ 1315 → Err w ≡ reply (length zeros) (unpacked s) →
+pub refused_settles : (s zeros lent : List ℕ) (w : Refusal) → length zeros ≡ 1315 → Err w ≡ reply (length zeros) (unpacked s) →
     Settled s lent lent (Err w)
 refused_settles s zeros lent w long e =
     rw (reply_refused (length zeros) (unpacked s) w (λ xs f. omega (arith, (unpacked_shape s xs f).few, long)) e) (refuses _ w refl, refl)
@@ -88,7 +87,7 @@ answers_settle s list lent after r e a = rw e a
 
 -- What an answer to a ticket that passes its checks says: no refusal where there is room, and a length is that of a settlement.
 module _ (ticket xs lent after : List ℕ) (e : unpacked ticket ≡ Ok xs) where
-  pub not_refused : (why : ℕ) → room_for xs ≤ length lent → ¬ Settled ticket lent after (Err why)
+  pub not_refused : (why : Refusal) → room_for xs ≤ length lent → ¬ Settled ticket lent after (Err why)
   not_refused why room s = let a = rw e at s in let f = (a.settled room).1.reply in never cc
 
   pub done_settled : (count : ℕ) → Settled ticket lent after (Ok count) → SettledIn ticket xs lent after count

@@ -9,7 +9,7 @@ use lib.ListN.{length, take, drop}
 use Rattle.grid.specs.First.{first}
 use Rattle.grid.specs.Sum.{sum}
 use Rattle.grid.proofs.Cases.{never}
-use Rattle.checks.specs.Refusals.{no_room}
+use Rattle.checks.specs.declared.refusals.Refusal.{Refusal}
 use Rattle.groups.specs.Groups.{read_from}
 use Rattle.reader.specs.Walk.{walk, form}
 use Rattle.reader.specs.Answer.{unpacked}
@@ -36,10 +36,10 @@ pub record WrongSettlings : Type 0 where
   pub any_stock : (lent after : List ℕ) (count : ℕ) → Settled ticket_a lent after (Ok count) →
       ¬ Settled ticket_d lent after (Ok count)
   -- refusal 10 of a buffer of exactly 7 bytes, and beside it that this refusal is due of every shorter one
-  pub early : (lent after : List ℕ) → length lent ≡ 7 → ¬ Settled ticket_a lent after (Err no_room)
-  pub short : (lent : List ℕ) → length lent < 7 → Settled ticket_a lent lent (Err no_room)
+  pub early : (lent after : List ℕ) → length lent ≡ 7 → ¬ Settled ticket_a lent after (Err Refusal.NoRoom)
+  pub short : (lent : List ℕ) → length lent < 7 → Settled ticket_a lent lent (Err Refusal.NoRoom)
   -- any refusal where there is room
-  pub refused : (lent after : List ℕ) (why : ℕ) → 7 ≤ length lent → ¬ Settled ticket_a lent after (Err why)
+  pub refused : (lent after : List ℕ) (why : Refusal) → 7 ≤ length lent → ¬ Settled ticket_a lent after (Err why)
 
 -- The numbers of a ticket of small numbers are its bytes.
 unpacked_a : unpacked ticket_a ≡ Ok ticket_a
@@ -94,7 +94,7 @@ wrong_settlings = record {
   stock = not_stock;
   stock_for_d = examples.d1;
   any_stock = no_stock_for_both;
-  early = λ lent after seven. not_refused ticket_a ticket_a lent after unpacked_a no_room (omega arith);
+  early = λ lent after seven. not_refused ticket_a ticket_a lent after unpacked_a Refusal.NoRoom (omega arith);
   short = λ lent few. answers_settle ticket_a ticket_a lent lent _ unpacked_a
       (room_answers ticket_a lent 1 1 1 refl refl refl few ticket_a unpacked_a);
   refused = λ lent after why room. not_refused ticket_a ticket_a lent after unpacked_a why room;

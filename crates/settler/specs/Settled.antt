@@ -4,7 +4,6 @@
 use Rattle.std.specs.Prelude.{Result, Ok, Err}
 use Rattle.checks.specs.declared.refusals.Refusal.{Refusal}
 use Rattle.std.specs.Prelude.{ℕ, ◌+◌, ◌*◌, ◌≤◌, ◌<◌, ◌≡◌, List, length, take, drop}
-use Rattle.checks.specs.Refusals.{no_room}
 use Rattle.reader.specs.Walk.{Outcome}
 use Rattle.reader.specs.Values.{Refuses, Counts}
 use Rattle.reader.specs.Answer.{unpacked, settlement_read}
@@ -37,7 +36,7 @@ room_for xs = 3 + 4 * (growers_of xs * pilots_of xs)
 
 -- An answer to a ticket of the numbers xs: a lack of room exactly when the buffer is too short, else a sound settlement.
 pub record Answers (ticket xs lent after : List ℕ) (r : Result ℕ Refusal) : Type 0 where
-  pub short : length lent < room_for xs → Refuses r no_room × (after ≡ lent)
+  pub short : length lent < room_for xs → Refuses r Refusal.NoRoom × (after ≡ lent)
   pub settled : room_for xs ≤ length lent → (count : ℕ) × Counts r count × SettledIn ticket xs lent after count
 
 -- An answer to a ticket's bytes: what unpacking refuses is refused with the same number.

@@ -8,8 +8,8 @@ ghost use Rattle.settler.specs.Settled.{Settled};
 ghost use Rattle.settler.specs.SettledList.{SettledList};
 ghost use Rattle.settler.specs.Numbers.{IsTicket, AnswersNumbers};
 
+use checks::Refusal;
 use listing::list_settlement;
-use reader::{NO_ROOM, Reply};
 pub use squares::settle_squares;
 use tables::{Quantity, Side};
 
@@ -62,7 +62,7 @@ pub fn settle_list(ticket: &[u16]) -> [u16; 771]
 }
 
 // Settles a ticket's numbers into a lent buffer, which must have room for the longest settlement that the ticket could have.
-fn settle_numbers(ticket: &[u16], settlement: &mut [u8]) -> Reply
+fn settle_numbers(ticket: &[u16], settlement: &mut [u8]) -> Result<usize, Refusal>
     requires { IsTicket ticket.now }
     ensures { AnswersNumbers ticket.now settlement.old settlement.new result }
 {
@@ -70,20 +70,17 @@ fn settle_numbers(ticket: &[u16], settlement: &mut [u8]) -> Reply
     let pilots = tables::pilots(ticket);
     let pairs = numbers::pairs(growers, pilots);
     if settlement.len() < 3 + 4 * pairs {
-        return Reply::Refused { why: NO_ROOM };
+        return Err(Refusal::NoRoom);
     }
     let list = settle_list(ticket);
     reader::write_settlement(tables::settlement_front(&list), growers, pilots, settlement)
 }
 
 // Writes a sound settlement of a ticket at the front of a lent buffer, and returns its length in bytes.
-pub fn settle(ticket: &[u8], settlement: &mut [u8]) -> Reply
+pub fn settle(ticket: &[u8], settlement: &mut [u8]) -> Result<usize, Refusal>
     ensures { Settled ticket.now settlement.old settlement.new result }
 {
     let mut numbers = numbers::ticket_list();
-    let reply = reader::unpack(ticket, &mut numbers);
-    match reply {
-        Reply::Refused { why } => Reply::Refused { why },
-        Reply::Done { count } => settle_numbers(numbers::front(&numbers, count), settlement),
-    }
+    let count = reader::unpack(ticket, &mut numbers)?;
+    settle_numbers(numbers::front(&numbers, count), settlement)
 }

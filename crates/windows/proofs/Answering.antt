@@ -6,9 +6,7 @@ use Prim.Native.Nat.{ℕ, ◌+◌, ◌<◌}
 use mathlib.Core.Path.{◌≡◌, refl, sym, ap, ◌∙◌}
 use mathlib.Core.List.{List}
 use native.Mathlib.Omega.{arith}
-use borrow.Author.Tests.{eq-eqb, ne_eqb}
 use lib.ListN.{length}
-use Rattle.groups.specs.Groups.{pack}
 use Rattle.reader.specs.Walk.{Outcome}
 use Rattle.reader.specs.Answer.{unpacked, packed, reply, Tells, kept}
 use Rattle.reader.proofs.Facts.{unpacked_shape, reply_refused}
@@ -28,38 +26,30 @@ Answers o lent after r = Tells r (length lent) o × (after ≡ kept lent o)
 pub answers_as : (o o' : Outcome) (lent after : List ℕ) (r : Result ℕ Refusal) → o ≡ o' → Answers o lent after r → Answers o' lent after r
 answers_as o o' lent after r e a = rw e at a
 
-pub refusal_answers : (lent : List ℕ) (why : ℕ) → Answers (Err why) lent lent (Err why)
+pub refusal_answers : (lent : List ℕ) (why : Refusal) → Answers (Err why) lent lent (Err why)
 refusal_answers lent why = (tells (Err why) (length lent) (Err why) refl, refl)
 
--- The refusal of the windows, and none.
-pub windows_refused : (windows xs : List ℕ) → 0 < refusal_for windows xs → narrowed_as windows (Ok xs) ≡ Err (refusal_for windows xs)
-windows_refused windows xs h = rw (ne_eqb (refusal_for windows xs) 0 (λ e. omega arith))
+module _ (windows list : List ℕ) (growers pilots : ℕ) (eg : growers ≡ growers_of list) (ep : pilots ≡ pilots_of list) where
+  same_refusal : windows_refusal windows (growers + pilots) ≡ refusal_for windows (ticket_front list)
+  same_refusal = rw (eg, ep, front_growers list, front_pilots list)
 
-pub windows_pass : (windows xs : List ℕ) → refusal_for windows xs ≡ 0 →
-    narrowed_as windows (Ok xs) ≡ Ok (pack (narrowed windows xs))
-windows_pass windows xs e = rw (eq-eqb (refusal_for windows xs) 0 e)
+  -- The refusal of the windows, and none.
+  pub refused_answers : (why : Refusal) → windows_refusal windows (growers + pilots) ≡ Err why → (lent : List ℕ) →
+      Answers (outcome_of windows list) lent lent (Err why)
+  refused_answers why e lent =
+      answers_as (Err why) _ lent lent (Err why) (rw (sym same_refusal ∙ e)) (refusal_answers lent why)
 
-module _ (windows list : List ℕ) (why growers pilots : ℕ) (eg : growers ≡ growers_of list) (ep : pilots ≡ pilots_of list)
-    (e : why ≡ windows_refusal windows (growers + pilots)) where
-  same_refusal : why ≡ refusal_for windows (ticket_front list)
-  same_refusal = e ∙ rw (eg, ep, front_growers list, front_pilots list)
-
-  pub refused_answers : 0 < why → (lent : List ℕ) → Answers (outcome_of windows list) lent lent (Err why)
-  refused_answers h lent =
-      answers_as (Err why) _ lent lent (Err why)
-      (sym (windows_refused windows (ticket_front list) (omega (arith, same_refusal, h)) ∙ ap Err (sym same_refusal)))
-      (refusal_answers lent why)
-
-  pub narrowed_answers : why ≡ 0 → (next own lent after : List ℕ) (r : Result ℕ Refusal) → InFront (narrowed windows (ticket_front list)) next →
-      own ≡ ticket_front next → Answers (packed own) lent after r → Answers (outcome_of windows list) lent after r
+  pub narrowed_answers : windows_refusal windows (growers + pilots) ≡ Ok tt → (next own lent after : List ℕ) (r : Result ℕ Refusal) →
+      InFront (narrowed windows (ticket_front list)) next → own ≡ ticket_front next → Answers (packed own) lent after r →
+      Answers (outcome_of windows list) lent after r
   narrowed_answers z next own lent after r here f =
       answers_as _ _ lent after r
       (ap packed (f ∙ here.front)
       ∙ passing_packed (narrowed windows (ticket_front list)) here.passing
-      ∙ sym (windows_pass windows (ticket_front list) (sym same_refusal ∙ z)))
+      ∙ rw (sym same_refusal ∙ z))
 
 -- From the ticket's bytes: what was refused, and what was unpacked.
-pub ticket_refused : (s windows zeros lent : List ℕ) (w : ℕ) → length zeros ≡ 1315 → Err w ≡ reply (length zeros) (unpacked s) →
+pub ticket_refused : (s windows zeros lent : List ℕ) (w : Refusal) → length zeros ≡ 1315 → Err w ≡ reply (length zeros) (unpacked s) →
     Answers (new_ticket_of s windows) lent lent (Err w)
 ticket_refused s windows zeros lent w long e =
     rw (reply_refused (length zeros) (unpacked s) w (λ xs f. omega (arith, (unpacked_shape s xs f).few, long)) e) (refusal_answers lent w)

@@ -1,5 +1,6 @@
 -- The pairs of a ticket narrowed one after another: each is a call that is accepted, so what it leaves passes the ticket's checks.
 -- Assumes nothing.
+use Rattle.std.specs.Prelude.{Ok}
 use Prim.Native.Nat.{ℕ, zero, suc, ◌+◌, ◌*◌, ◌/◌, ◌%◌, ◌≤◌, ◌<◌}
 use mathlib.Core.Bool.{true}
 use mathlib.Core.Path.{◌≡◌, refl, sym, subst, ap, ◌∙◌}
@@ -45,10 +46,10 @@ module _ (xs : List ℕ) (w : Passing xs) (i j : ℕ) (hi : i < growers_of xs) (
       let first : (terms_of xs i j).tariff_cap ≡ 0 = rw (add-zero (pair_start (growers_of xs) (pilots_of xs) i j)) z.0 in
       (omega (arith, first), omega (arith, z.1))
 
-  pub narrowed_accepted : (common : ℕ) → refusal_of (pair_call i j common xs) xs ≡ 0
+  pub narrowed_accepted : (common : ℕ) → refusal_of (pair_call i j common xs) xs ≡ Ok tt
   narrowed_accepted common =
-      sym (terms_pass_lem (Grower i) (Pilot j) (narrowed_terms common (terms_of xs i j)) xs grower_in pilot_in
-      (deal_passes _ _ _ _ _ _ (narrowed_deal common (terms_of xs i j) terms_deal) (none_left common)))
+      terms_pass_lem (Grower i) (Pilot j) (narrowed_terms common (terms_of xs i j)) xs grower_in pilot_in
+      (deal_passes _ _ _ _ _ _ (narrowed_deal common (terms_of xs i j) terms_deal) (none_left common))
 
 -- The five numbers of a pair stand in the list as they stand in the ticket in front of it.
 front_terms : (list : List ℕ) (i j : ℕ) → i < growers_of list → j < pilots_of list → terms_of list i j ≡ terms_of (ticket_front list) i j

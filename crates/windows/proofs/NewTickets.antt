@@ -1,6 +1,7 @@
 -- A new ticket passes the ticket's checks; its caps fit, all else is kept, and what settling writes for it is sound.
 -- Assumes nothing.
 use Rattle.std.specs.Prelude.{Ok, Err}
+use Rattle.checks.specs.Refusals.{Checked, giving}
 use Prim.Native.Nat.{ℕ, ◌+◌, ◌*◌, ◌-◌, ◌≤◌, ◌<◌, min}
 use mathlib.Core.Bool.{Bool, true, false, cond}
 use mathlib.Core.Path.{◌≡◌, refl, sym, ap, ◌∙◌}
@@ -102,19 +103,18 @@ module _ (windows xs : List ℕ) (w : Passing xs) where
 
 -- A file that is made is that of the narrowed numbers of a ticket.
 pub made_of : (ticket windows file : List ℕ) → new_ticket_of ticket windows ≡ Ok file →
-    (xs : List ℕ) × (unpacked ticket ≡ Ok xs) × (refusal_for windows xs ≡ 0) × (pack (narrowed windows xs) ≡ file)
+    (xs : List ℕ) × (unpacked ticket ≡ Ok xs) × (refusal_for windows xs ≡ Ok tt) × (pack (narrowed windows xs) ≡ file)
 made_of ticket windows file e = go (unpacked ticket) refl e
   where
-    of_numbers : (xs : List ℕ) (t : Bool) → eqb (refusal_for windows xs) 0 ≡ t →
-        cond t (Ok (pack (narrowed windows xs))) (Err (refusal_for windows xs)) ≡ Ok file →
-        (refusal_for windows xs ≡ 0) × (pack (narrowed windows xs) ≡ file)
-    of_numbers xs true f e = (eqb-true (refusal_for windows xs) 0 f, cc)
-    of_numbers xs false f e = never cc
+    of_numbers : (xs : List ℕ) (r : Checked) → refusal_for windows xs ≡ r → giving r (pack (narrowed windows xs)) ≡ Ok file →
+        (refusal_for windows xs ≡ Ok tt) × (pack (narrowed windows xs) ≡ file)
+    of_numbers xs (Ok _) f e = (f, cc)
+    of_numbers xs (Err w) f e = never cc
 
     go : (o : Outcome) → unpacked ticket ≡ o → narrowed_as windows o ≡ Ok file →
-        (xs : List ℕ) × (unpacked ticket ≡ Ok xs) × (refusal_for windows xs ≡ 0) × (pack (narrowed windows xs) ≡ file)
+        (xs : List ℕ) × (unpacked ticket ≡ Ok xs) × (refusal_for windows xs ≡ Ok tt) × (pack (narrowed windows xs) ≡ file)
     go (Err why) f e = never cc
-    go (Ok xs) f e = let r = of_numbers xs (eqb (refusal_for windows xs) 0) refl e in (xs, f, r.0, r.1)
+    go (Ok xs) f e = let r = of_numbers xs (refusal_for windows xs) refl e in (xs, f, r.0, r.1)
 
 made_unpacks : (ticket windows file xs : List ℕ) → unpacked ticket ≡ Ok xs → pack (narrowed windows xs) ≡ file →
     unpacked file ≡ Ok (narrowed windows xs)

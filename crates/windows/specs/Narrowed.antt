@@ -2,7 +2,8 @@
 -- leave of a pair's five numbers stands in `pair_caps`.
 -- Assumes nothing.
 use Rattle.std.specs.Prelude.{Ok, Err}
-use Rattle.std.specs.Prelude.{ℕ, zero, suc, ◌+◌, ◌*◌, ◌/◌, ◌%◌, cond, List, eqb}
+use Rattle.std.specs.Prelude.{ℕ, zero, suc, ◌+◌, ◌*◌, ◌/◌, ◌%◌, List}
+use Rattle.checks.specs.Refusals.{Checked, giving}
 use Rattle.groups.specs.Groups.{pack}
 use Rattle.offers.specs.declared.Terms.{Terms}
 use Rattle.reader.specs.Walk.{Outcome}
@@ -38,14 +39,13 @@ abbrev pub narrowed : List ℕ → List ℕ → List ℕ
 narrowed windows list = narrowed_pairs (common_hours windows (growers_of list)) (growers_of list * pilots_of list) list
 
 -- The refusal of the windows of a ticket's growers and pilots.
-abbrev pub refusal_for : List ℕ → List ℕ → ℕ
+abbrev pub refusal_for : List ℕ → List ℕ → Checked
 refusal_for windows list = windows_refusal windows (growers_of list + pilots_of list)
 
 -- The new ticket's bytes: the ticket's refusals come first, then those of the windows, and no others.
 abbrev pub narrowed_as : List ℕ → Outcome → Outcome
 narrowed_as windows (Err w) = Err w
-narrowed_as windows (Ok list) =
-    cond (eqb (refusal_for windows list) 0) (Ok (pack (narrowed windows list))) (Err (refusal_for windows list))
+narrowed_as windows (Ok list) = giving (refusal_for windows list) (pack (narrowed windows list))
 
 abbrev pub new_ticket_of : List ℕ → List ℕ → Outcome
 new_ticket_of ticket windows = narrowed_as windows (unpacked ticket)

@@ -39,7 +39,7 @@ pub record Narrows (common : ℕ → ℕ → ℕ) (old new : Ticket) : Type 0 wh
 pub record NewTicket (ticket windows file : List ℕ) : Type 0 where
   pub old : List ℕ
   pub is_ticket : unpacked ticket ≡ Ok old
-  pub passing : refusal_for windows old ≡ 0
+  pub passing : refusal_for windows old ≡ Ok tt
   -- it passes the ticket's checks: the narrowed numbers are unpacked
   pub unpacks : unpacked file ≡ Ok (narrowed windows old)
   pub kind : get_or (narrowed windows old) 0 0 ≡ get_or old 0 0

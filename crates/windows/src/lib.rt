@@ -11,32 +11,26 @@ ghost use Rattle.windows.specs.Held.{Holds, outcome_of};
 
 use numbers::entry;
 use pairs::narrow_pairs;
-use reader::Reply;
+use checks::Refusal;
 
 // Narrows a ticket's numbers, which stand in front of a list, and writes the new ticket to the front of a lent buffer.
-fn narrow_numbers(ticket: [u16; 1315], windows: &[u16], new_ticket: &mut [u8]) -> Reply
+fn narrow_numbers(ticket: [u16; 1315], windows: &[u16], new_ticket: &mut [u8]) -> Result<usize, Refusal>
     requires { Holds ticket }
     ensures tells { Tells result (length new_ticket.old) (outcome_of windows.now ticket) }
     ensures new_ticket_after { new_ticket.new ≡ kept new_ticket.old (outcome_of windows.now ticket) }
 {
     let mut list = ticket;
-    let why = window_lists::refusal(windows, entry(&list, 1), entry(&list, 2));
-    if 0 < why {
-        return Reply::Refused { why };
-    }
+    window_lists::refusal(windows, entry(&list, 1), entry(&list, 2))?;
     narrow_pairs(&mut list, windows);
     reader::pack(tables::ticket_front(&list), new_ticket)
 }
 
 // Writes the ticket that windows make of a ticket to the front of a lent buffer, and returns its length in bytes.
-pub fn narrow(ticket: &[u8], windows: &[u16], new_ticket: &mut [u8]) -> Reply
+pub fn narrow(ticket: &[u8], windows: &[u16], new_ticket: &mut [u8]) -> Result<usize, Refusal>
     ensures tells { Tells result (length new_ticket.old) (new_ticket_of ticket.now windows.now) }
     ensures new_ticket_after { new_ticket.new ≡ kept new_ticket.old (new_ticket_of ticket.now windows.now) }
 {
     let mut list = numbers::ticket_list();
-    let reply = reader::unpack(ticket, &mut list);
-    match reply {
-        Reply::Refused { why } => Reply::Refused { why },
-        Reply::Done { count: _ } => narrow_numbers(list, windows, new_ticket),
-    }
+    reader::unpack(ticket, &mut list)?;
+    narrow_numbers(list, windows, new_ticket)
 }

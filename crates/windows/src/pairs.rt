@@ -14,7 +14,8 @@ fn narrow_pair(ticket: &mut [u16; 1315], grower: u16, pilot: u16, common: u16)
     ensures { ticket.new ≡ after (pair_call grower pilot common ticket.old) ticket.old }
 {
     let terms = narrowed(terms_of(&*ticket, grower, pilot), common);
-    ticket_calls::set_pair(ticket, grower, pilot, terms);
+    // a refusal changes nothing; terms that are narrowed have none
+    let _answer = ticket_calls::set_pair(ticket, grower, pilot, terms);
 }
 
 // Narrows all pairs to the hours that everybody's windows have in common.

@@ -1,5 +1,4 @@
 -- `accounts::account_numbers` meets its contract: gains are listed, then pays and commissions.
-use Rattle.std.specs.Prelude.{Ok}
 use Prim.Native.Nat.{ℕ}
 use mathlib.Core.Path.{ap₂}
 use mathlib.Core.List.{List}
@@ -14,4 +13,4 @@ returns c = let s = c.args in
     c.gains.result c.pays.result _ _ _
     c.growers-growers.ensures.0 c.pilots-pilots.ensures.0 c.gains.ensures c.pays.ensures
     c.no_numbers-list.ensures c.list_gains.ensures c.list_pays.ensures in
-    ap₂ (λ (k : ℕ) (l : List ℕ). record { reply = Ok k; list = l }) (omega (arith, e.0)) e.1
+    ap₂ (λ (k : ℕ) (l : List ℕ). record { count = k; list = l }) (omega (arith, e.0)) e.1

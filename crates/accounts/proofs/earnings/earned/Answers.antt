@@ -15,5 +15,5 @@ loop-l-preserved c = let l = c.loop-l.l in
     omega (
       arith,
       sum_more (earned_with c.args.tariff_hours c.args.free_deal_hours c.args.tariff c.args.whole c.args.given) l,
-      ap (λ (share : ℕ). get_or c.args.free_deal_hours l 0 * share) c.less-share.ensures,
+      ap (λ (share : ℕ). get_or c.args.free_deal_hours l 0 * share) c.saturating_sub-share.ensures,
     )

@@ -5,4 +5,4 @@ use Rattle.open_market.proofs.Histories.{Done}
 use Rattle.open_market.proofs.replaying.replay.Given as goal
 
 abbrev pub invariant-loop-k : goal.invariant-loop-k
-invariant-loop-k l = (l.k ≤ l.end) × Done l.initial.answer.market (first_calls l.calls l.k) l.answer
+invariant-loop-k l = (l.k ≤ l.end) × Done l.initial.last (first_calls l.calls l.k) l.first l.last

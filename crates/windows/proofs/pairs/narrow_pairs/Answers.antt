@@ -23,7 +23,7 @@ loop-j-preserved c = let hi = c.loop-i-test.true in
       λ xs p. pairs-at _ _ _ _ _ _ _ (omega arith)
           (pairs_turn a.windows.now xs _ _ i j _ c.loop-j.ticket _ hi hj
           (c.cell-hours.ensures
-          ∙ rw (c.index.ensures.0, c.index-in-loop-j.ensures.0)
+          ∙ rw (c.from.ensures, c.from-in-loop-j.ensures)
           (c.common_hours-common.ensures.inner i j (omega (arith, rows, hi)) (omega (arith, columns, hj))))
           c.narrow_pair.ensures (c.loop-j.invariant.1 xs p)),
     )
