@@ -12,14 +12,14 @@ use Rattle.windows.proofs.narrow.Goals as goal
 pub narrow_numbers-requires : goal.narrow_numbers-requires
 narrow_numbers-requires c =
     let h0 : (xs : List ℕ) × (unpacked c.args.ticket.now ≡ Ok xs) × InFront xs c.unpack.new.list =
-    unpacked_in_front _ _ _ _ c.ticket_list-list.ensures.1 (c.in_ok-unpack.ensures ∙ c.unpack.ensures.tells.reply)
+    unpacked_in_front _ _ _ _ c.ticket_list-list.ensures.1 c.in_ok-unpack.ensures.tells.reply
     c.unpack.ensures.list_after in
     let here = h0.2 in rw here.front here
 
 pub returns : goal.returns
 returns c =
     let h0 : (xs : List ℕ) × (unpacked c.args.ticket.now ≡ Ok xs) × InFront xs c.unpack.new.list =
-    unpacked_in_front _ _ _ _ c.ticket_list-list.ensures.1 (c.in_ok-unpack.ensures ∙ c.unpack.ensures.tells.reply)
+    unpacked_in_front _ _ _ _ c.ticket_list-list.ensures.1 c.in_ok-unpack.ensures.tells.reply
     c.unpack.ensures.list_after in
     let both = ticket-unpacked _ _ h0.0 _ _ _ _ h0.1 h0.2 (c.narrow_numbers.ensures.tells, c.narrow_numbers.ensures.new_ticket_after) in
     record { tells = both.0; new_ticket_after = both.1 }

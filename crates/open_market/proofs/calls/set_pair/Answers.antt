@@ -1,11 +1,13 @@
 -- `open_market::calls::set_pair` meets its contract: the call is refused, or the ticket after it settled.
 use mathlib.Core.Path.{refl, sym}
+use Rattle.scanning.proofs.Running.{met_is}
 use Rattle.ticket_calls.specs.Calls.{SetPair}
 use Rattle.open_market.proofs.CallLaws.{refused_called, accepted_called}
 use Rattle.open_market.proofs.calls.set_pair.Goals as goal
 
 pub returns-in_err-set_pair : goal.returns-in_err-set_pair
-returns-in_err-set_pair c = refused_called (SetPair c.args.grower c.args.pilot c.args.terms) _ _ _ (sym c.in_err-set_pair.ensures) refl
+returns-in_err-set_pair c = refused_called (SetPair c.args.grower c.args.pilot c.args.terms) _ _ _ (sym c.in_err-set_pair.ensures.value)
+    (met_is c.from_residual.result _ c.from_residual.ensures.1)
 
 pub returns : goal.returns
-returns c = accepted_called (SetPair c.args.grower c.args.pilot c.args.terms) _ _ _ _ (sym c.in_ok-set_pair.ensures) c.set_pair.ensures.ticket_after c.settled.ensures refl
+returns c = accepted_called (SetPair c.args.grower c.args.pilot c.args.terms) _ _ _ _ (sym c.in_ok-set_pair.ensures.value) c.set_pair.ensures.ticket_after c.settled.ensures refl
