@@ -1,286 +1,254 @@
 // Answers as JSON, an object a line.
-use files::{Stream, fill_in, put};
+use checks::Refusal;
+use files::Text;
 use market::Deal;
-use numbers::entry;
+use numbers::{entry, front};
+use std::fmt;
+use std::io::{Result, Write};
 use tables::{Quantity, Side};
-use verdicts::Values;
+use verdicts::Verdict;
+use words::{Finding, Reason};
 
-fn digit(value: u8) -> u8 {
-    if value < 10 {
-        48 + value
-    } else {
-        87 + value % 16
+// A string. Quotes, backslashes and controls are escaped; all other bytes stand as they are.
+#[derive(Clone, Copy)]
+struct Quoted<'a> {
+    bytes: &'a [u8],
+}
+
+impl<'a> Text for Quoted<'a> {
+    fn write<W: Write>(&self, out: &mut W) -> Result<()> {
+        out.write_all(b"\"")?;
+        for &byte in self.bytes {
+            match byte {
+                b'"' | b'\\' => out.write_all(&[b'\\', byte])?,
+                0..=31 => write!(out, "\\u{byte:04x}")?,
+                _ => out.write_all(&[byte])?,
+            }
+        }
+        out.write_all(b"\"")
     }
 }
 
-// A byte of a string. Quotes, backslashes and controls are escaped; all others stand as they are.
-fn put_byte(page: &mut [u8], stream: Stream, byte: u8) -> Stream {
-    if byte == b'"' || byte == b'\\' {
-        return put(page, stream, &[b'\\', byte]);
+// A refusal, at the end of an object.
+#[derive(Clone, Copy)]
+struct RefusalEnd {
+    why: Refusal,
+}
+
+impl fmt::Display for RefusalEnd {
+    fn fmt<W: fmt::Write>(&self, f: &mut fmt::Formatter<W>) -> fmt::Result {
+        let why = self.why;
+        let number = u8::from(why);
+        let reason = Reason { why };
+        writeln!(f, "\"refusal\":{number},\"text\":\"{reason}\"}}")
     }
-    if byte < 32 {
-        let escaped = put(page, stream, b"\\u00");
-        return put(page, escaped, &[digit(byte / 16), digit(byte % 16)]);
+}
+
+#[derive(Clone, Copy)]
+pub struct RefusalObject {
+    pub why: Refusal,
+}
+
+impl fmt::Display for RefusalObject {
+    fn fmt<W: fmt::Write>(&self, f: &mut fmt::Formatter<W>) -> fmt::Result {
+        write!(f, "{{{}", RefusalEnd { why: self.why })
     }
-    put(page, stream, &[byte])
 }
 
-pub(crate) fn put_string(page: &mut [u8], stream: Stream, words: &[u8]) -> Stream {
-    let mut now = put(page, stream, b"\"");
-    for k in 0..words.len() {
-        now = put_byte(page, now, words[k]);
-    }
-    put(page, now, b"\"")
-}
-
-// A refusal, within an object.
-fn put_refusal(page: &mut [u8], stream: Stream, why: u8) -> Stream {
-    let number = fill_in(page, stream, b"\"refusal\":%,\"text\":\"", &[why as u64]);
-    let told = words::put_refusal(page, number, why);
-    put(page, told, b"\"}\n")
-}
-
-pub fn put_refusal_object(page: &mut [u8], stream: Stream, why: u8) -> Stream {
-    let begun = put(page, stream, b"{");
-    put_refusal(page, begun, why)
-}
-
-fn put_deal(page: &mut [u8], stream: Stream, deal: Deal) -> Stream {
+fn word_of(deal: Deal) -> &'static str {
     match deal {
-        Deal::Tariff => put(page, stream, b",\"deal\":\"tariff\""),
-        Deal::Free => put(page, stream, b",\"deal\":\"free\""),
+        Deal::Tariff => "tariff",
+        Deal::Free => "free",
     }
 }
 
 // A verdict's number and whom it names.
-fn put_named(
-    page: &mut [u8],
-    stream: Stream,
-    verdict: u8,
-    grower: usize,
-    pilot: usize,
-    deal: Deal,
-) -> Stream {
-    let named = fill_in(
-        page,
-        stream,
-        b"\"verdict\":%,\"grower\":%,\"pilot\":%",
-        &[verdict as u64, grower as u64, pilot as u64],
-    );
-    put_deal(page, named, deal)
+#[derive(Clone, Copy)]
+struct Named {
+    verdict: Verdict,
 }
 
-fn put_text(
-    page: &mut [u8],
-    stream: Stream,
-    verdict: u8,
-    grower: usize,
-    pilot: usize,
-    deal: Deal,
-) -> Stream {
-    let begun = put(page, stream, b",\"text\":\"");
-    let told = words::put_verdict(page, begun, verdict, grower, pilot, deal);
-    put(page, told, b"\"")
+impl fmt::Display for Named {
+    fn fmt<W: fmt::Write>(&self, f: &mut fmt::Formatter<W>) -> fmt::Result {
+        let values = verdicts::values_of(self.verdict);
+        write!(
+            f,
+            "\"verdict\":{},\"grower\":{},\"pilot\":{},\"deal\":\"{}\"",
+            values.verdict,
+            values.grower,
+            values.pilot,
+            word_of(values.deal)
+        )
+    }
+}
+
+// All faults, an object each.
+#[derive(Clone, Copy)]
+struct Faults<'a> {
+    faults: &'a [Verdict],
+}
+
+impl<'a> fmt::Display for Faults<'a> {
+    fn fmt<W: fmt::Write>(&self, f: &mut fmt::Formatter<W>) -> fmt::Result {
+        f.write_str(",\"faults\":[")?;
+        let mut comma = "";
+        for &verdict in self.faults {
+            let named = Named { verdict };
+            let finding = Finding { verdict };
+            write!(f, "{comma}{{{named},\"text\":\"{finding}\"}}")?;
+            comma = ",";
+        }
+        f.write_str("]")
+    }
 }
 
 // The verdict on a settlement, without the end of its object.
-fn put_verdict(page: &mut [u8], stream: Stream, values: Values) -> Stream {
-    let deal = values.deal;
-    let begun = put(page, stream, b"\"refusal\":0,");
-    let named = put_named(
-        page,
-        begun,
-        values.verdict,
-        values.grower,
-        values.pilot,
-        deal,
-    );
-    let counted = fill_in(
-        page,
-        named,
-        b",\"count\":%,\"worth\":%",
-        &[values.count as u64, values.worth],
-    );
-    put_text(
-        page,
-        counted,
-        values.verdict,
-        values.grower,
-        values.pilot,
-        deal,
-    )
+#[derive(Clone, Copy)]
+struct Judged {
+    verdict: Verdict,
 }
 
-fn put_fault(page: &mut [u8], stream: Stream, code: u16) -> Stream {
-    let fault = words::fault_of(code);
-    let verdict = (fault.verdict % 256) as u8;
-    let grower = usize::from(fault.grower);
-    let pilot = usize::from(fault.pilot);
-    let deal = fault.deal;
-    let begun = put(page, stream, b"{");
-    let named = put_named(page, begun, verdict, grower, pilot, deal);
-    let told = put_text(page, named, verdict, grower, pilot, deal);
-    put(page, told, b"}")
-}
-
-fn put_comma(page: &mut [u8], stream: Stream, place: usize) -> Stream {
-    if place == 0 {
-        return stream;
+impl fmt::Display for Judged {
+    fn fmt<W: fmt::Write>(&self, f: &mut fmt::Formatter<W>) -> fmt::Result {
+        let verdict = self.verdict;
+        let values = verdicts::values_of(verdict);
+        let named = Named { verdict };
+        let finding = Finding { verdict };
+        write!(
+            f,
+            "\"refusal\":0,{named},\"count\":{},\"worth\":{},\"text\":\"{finding}\"",
+            values.count, values.worth
+        )
     }
-    put(page, stream, b",")
 }
 
-fn put_faults(page: &mut [u8], stream: Stream, faults: &[u16]) -> Stream {
-    let mut now = put(page, stream, b",\"faults\":[");
-    for k in 0..faults.len() {
-        let parted = put_comma(page, now, k);
-        now = put_fault(page, parted, faults[k]);
-    }
-    put(page, now, b"]")
+// What is said of a settlement, with all faults if they are asked for.
+#[derive(Clone, Copy)]
+pub struct MarkedObject<'a> {
+    pub name: &'a [u8],
+    pub verdict: Verdict,
+    pub faults: Option<&'a [Verdict]>,
 }
 
-// A verdict, with all faults if they are asked for.
-fn put_settled(
-    page: &mut [u8],
-    stream: Stream,
-    values: Values,
-    all: bool,
-    faults: &[u16],
-) -> Stream {
-    let told = put_verdict(page, stream, values);
-    if all {
-        let listed = put_faults(page, told, faults);
-        return put(page, listed, b"}\n");
-    }
-    put(page, told, b"}\n")
-}
-
-// What is said of a settlement.
-pub fn put_marked(
-    page: &mut [u8],
-    stream: Stream,
-    name: &[u8],
-    values: Values,
-    all: bool,
-    faults: &[u16],
-) -> Stream {
-    let begun = put(page, stream, b"{\"settlement\":");
-    let named = put_string(page, begun, name);
-    let parted = put(page, named, b",");
-    if values.refusal != 0 {
-        return put_refusal(page, parted, values.refusal);
-    }
-    put_settled(page, parted, values, all, faults)
-}
-
-// A number of a pair.
-pub(crate) fn number(list: &[u16], quantity: Quantity, i: u16, j: u16) -> u64 {
-    entry(list, tables::place(list, quantity, i, j)) as u64
-}
-
-fn put_ticket_pair(page: &mut [u8], stream: Stream, list: &[u16], i: u16, j: u16) -> Stream {
-    let tariff = fill_in(
-        page,
-        stream,
-        b"{\"grower\":%,\"pilot\":%,\"tariff_cap\":%,\"tariff_gain\":%,\"tariff_pay\":%",
-        &[
-            i as u64,
-            j as u64,
-            number(list, Quantity::TariffCap, i, j),
-            number(list, Quantity::TariffGain, i, j),
-            number(list, Quantity::TariffPay, i, j),
-        ],
-    );
-    let cap = number(list, Quantity::FreeCap, i, j);
-    let gain = number(list, Quantity::JointGain, i, j);
-    fill_in(
-        page,
-        tariff,
-        b",\"free_cap\":%,\"joint_gain\":%}",
-        &[cap, gain],
-    )
-}
-
-fn put_settlement_pair(page: &mut [u8], stream: Stream, list: &[u16], i: u16, j: u16) -> Stream {
-    fill_in(
-        page,
-        stream,
-        b"{\"grower\":%,\"pilot\":%,\"tariff_hours\":%,\"free_deal_hours\":%,\"pay\":%}",
-        &[
-            i as u64,
-            j as u64,
-            number(list, Quantity::TariffHours, i, j),
-            number(list, Quantity::FreeDealHours, i, j),
-            number(list, Quantity::Pay, i, j),
-        ],
-    )
-}
-
-fn put_pair(page: &mut [u8], stream: Stream, list: &[u16], i: u16, j: u16) -> Stream {
-    let parted = put_comma(page, stream, usize::from(i) + usize::from(j));
-    if entry(list, 0) == 2 {
-        return put_settlement_pair(page, parted, list, i, j);
-    }
-    put_ticket_pair(page, parted, list, i, j)
-}
-
-fn put_pairs(page: &mut [u8], stream: Stream, list: &[u16]) -> Stream {
-    let growers = entry(list, 1);
-    let pilots = entry(list, 2);
-    let mut now = put(page, stream, b",\"pairs\":[");
-    for i in 0..growers {
-        for j in 0..pilots {
-            now = put_pair(page, now, list, i, j);
+impl<'a> Text for MarkedObject<'a> {
+    fn write<W: Write>(&self, out: &mut W) -> Result<()> {
+        out.write_all(b"{\"settlement\":")?;
+        Quoted { bytes: self.name }.write(out)?;
+        out.write_all(b",")?;
+        if let Verdict::Refused { why } = self.verdict {
+            return RefusalEnd { why }.write(out);
         }
+        Judged {
+            verdict: self.verdict,
+        }
+        .write(out)?;
+        if let Some(faults) = self.faults {
+            Faults { faults }.write(out)?;
+        }
+        out.write_all(b"}\n")
     }
-    put(page, now, b"]}\n")
-}
-
-fn put_entry(page: &mut [u8], stream: Stream, place: usize, count: usize, x: u16) -> Stream {
-    if place < count {
-        let parted = put_comma(page, stream, place);
-        return fill_in(page, parted, b"%", &[x as u64]);
-    }
-    stream
-}
-
-fn put_hours(page: &mut [u8], stream: Stream, hours: [u16; 16], count: usize) -> Stream {
-    let mut now = stream;
-    for k in 0..16usize {
-        now = put_entry(page, now, k, count, hours[k]);
-    }
-    put(page, now, b"]")
-}
-
-fn put_parties(page: &mut [u8], stream: Stream, list: &[u16]) -> Stream {
-    let growers = put(page, stream, b",\"grower_hours\":[");
-    let hours = put_hours(
-        page,
-        growers,
-        tables::hours(list, Side::Growers),
-        tables::growers(list),
-    );
-    let pilots = put(page, hours, b",\"pilot_hours\":[");
-    put_hours(
-        page,
-        pilots,
-        tables::hours(list, Side::Pilots),
-        tables::pilots(list),
-    )
 }
 
 // A document's numbers, by what they are.
-pub fn put_document(page: &mut [u8], stream: Stream, list: &[u16]) -> Stream {
-    let kind = entry(list, 0);
-    let begun = fill_in(
-        page,
-        stream,
-        b"{\"kind\":%,\"growers\":%,\"pilots\":%",
-        &[kind as u64, entry(list, 1) as u64, entry(list, 2) as u64],
-    );
-    if kind == 1 {
-        let parties = put_parties(page, begun, list);
-        return put_pairs(page, parties, list);
+#[derive(Clone, Copy)]
+pub struct DocumentObject<'a> {
+    pub list: &'a [u16],
+}
+
+impl<'a> DocumentObject<'a> {
+    fn is_ticket(&self) -> bool {
+        entry(self.list, 0) == 1
     }
-    put_pairs(page, begun, list)
+
+    // A number of a pair.
+    fn number(&self, quantity: Quantity, i: u16, j: u16) -> u16 {
+        entry(self.list, tables::place(self.list, quantity, i, j))
+    }
+}
+
+// The hours that those of a side have.
+#[derive(Clone, Copy)]
+struct Hours<'a> {
+    hours: &'a [u16],
+}
+
+impl<'a> fmt::Display for Hours<'a> {
+    fn fmt<W: fmt::Write>(&self, f: &mut fmt::Formatter<W>) -> fmt::Result {
+        let mut comma = "";
+        for hours in self.hours {
+            write!(f, "{comma}{hours}")?;
+            comma = ",";
+        }
+        Ok(())
+    }
+}
+
+// A pair of a document, after its grower and its pilot.
+#[derive(Clone, Copy)]
+struct Pair<'a> {
+    document: DocumentObject<'a>,
+    i: u16,
+    j: u16,
+}
+
+impl<'a> fmt::Display for Pair<'a> {
+    fn fmt<W: fmt::Write>(&self, f: &mut fmt::Formatter<W>) -> fmt::Result {
+        let of = |quantity| self.document.number(quantity, self.i, self.j);
+        if self.document.is_ticket() {
+            return write!(
+                f,
+                "\"tariff_cap\":{},\"tariff_gain\":{},\"tariff_pay\":{},\"free_cap\":{},\"joint_gain\":{}",
+                of(Quantity::TariffCap),
+                of(Quantity::TariffGain),
+                of(Quantity::TariffPay),
+                of(Quantity::FreeCap),
+                of(Quantity::JointGain)
+            );
+        }
+        write!(
+            f,
+            "\"tariff_hours\":{},\"free_deal_hours\":{},\"pay\":{}",
+            of(Quantity::TariffHours),
+            of(Quantity::FreeDealHours),
+            of(Quantity::Pay)
+        )
+    }
+}
+
+impl<'a> fmt::Display for DocumentObject<'a> {
+    fn fmt<W: fmt::Write>(&self, f: &mut fmt::Formatter<W>) -> fmt::Result {
+        let document = *self;
+        let list = self.list;
+        let kind = entry(list, 0);
+        let growers = entry(list, 1);
+        let pilots = entry(list, 2);
+        write!(
+            f,
+            "{{\"kind\":{kind},\"growers\":{growers},\"pilots\":{pilots}"
+        )?;
+        if self.is_ticket() {
+            let of_growers = tables::hours(list, Side::Growers);
+            let of_pilots = tables::hours(list, Side::Pilots);
+            write!(
+                f,
+                ",\"grower_hours\":[{}],\"pilot_hours\":[{}]",
+                Hours {
+                    hours: front(&of_growers, usize::from(growers)),
+                },
+                Hours {
+                    hours: front(&of_pilots, usize::from(pilots)),
+                }
+            )?;
+        }
+        f.write_str(",\"pairs\":[")?;
+        let mut comma = "";
+        for i in 0..growers {
+            for j in 0..pilots {
+                let pair = Pair { document, i, j };
+                write!(f, "{comma}{{\"grower\":{i},\"pilot\":{j},{pair}}}")?;
+                comma = ",";
+            }
+        }
+        f.write_str("]}\n")
+    }
 }

@@ -1,4 +1,4 @@
-// What the command line answers, put into a text: JSON, tables for people, and accounts. The functions here are proved safe, and held to the
+// What the command line answers, as texts: JSON, tables for people, and accounts. The functions here are proved safe, and held to the
 // tests of the program `exchange`.
 #![tactic(auto)]
 
@@ -8,7 +8,7 @@ mod names; // names.rt: names of growers and pilots
 mod sheet; // sheet.rt: a ticket settled, as an object
 mod sheet_table; // sheet_table.rt: the same for people
 
-pub use account::put_account;
-pub use json::{put_document, put_marked, put_refusal_object};
-pub use sheet::put_sheet_object;
-pub use sheet_table::put_table;
+pub use account::AccountLines;
+pub use json::{DocumentObject, MarkedObject, RefusalObject};
+pub use sheet::SheetObject;
+pub use sheet_table::Table;

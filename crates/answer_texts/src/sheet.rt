@@ -1,113 +1,75 @@
 // The sheet as an object, and what a pair that flies has.
-use crate::json::number;
-use files::{Stream, fill_in, put};
-use numbers::entry;
-use tables::Quantity;
+use std::fmt;
+use tables::{Quantity, Side};
+use words::Settled;
 
-// A pair of the sheet, with a comma before it unless it is the first.
-fn put_pair(
-    page: &mut [u8],
-    stream: Stream,
-    terms: &[u16],
-    agreed: &[u16],
-    i: u16,
-    j: u16,
-) -> Stream {
-    let hours = number(agreed, Quantity::FreeDealHours, i, j);
-    let pay = number(agreed, Quantity::Pay, i, j);
-    let tariff = fill_in(
-        page,
-        stream,
-        b"{\"grower\":%,\"pilot\":%,\"tariff_hours\":%,\"tariff_gain\":%,\"tariff_pay\":%",
-        &[
-            i as u64,
-            j as u64,
-            number(agreed, Quantity::TariffHours, i, j),
-            number(terms, Quantity::TariffGain, i, j),
-            number(terms, Quantity::TariffPay, i, j),
-        ],
-    );
-    fill_in(
-        page,
-        tariff,
-        b",\"free_deal_hours\":%,\"grower_share\":%,\"pilot_share\":%}",
-        &[hours, grower_share(terms, agreed, i, j), pay],
-    )
-}
-
-// What a grower keeps of a joint gain: nothing without free-deal hours.
-pub(crate) fn grower_share(terms: &[u16], agreed: &[u16], i: u16, j: u16) -> u64 {
-    let gain = number(terms, Quantity::JointGain, i, j);
-    let pay = number(agreed, Quantity::Pay, i, j);
-    if number(agreed, Quantity::FreeDealHours, i, j) == 0 || gain < pay {
-        return 0;
-    }
-    gain - pay
-}
-
-// Whether a pair has any hours.
-pub(crate) fn flies(agreed: &[u16], i: u16, j: u16) -> bool {
-    0 < number(agreed, Quantity::TariffHours, i, j)
-        || 0 < number(agreed, Quantity::FreeDealHours, i, j)
-}
-
-// The pairs that were put, and the text.
+// What a pair agreed that has any hours. The grower keeps nothing of a joint gain without free-deal hours.
 #[derive(Clone, Copy)]
-struct Put {
-    pairs: bool,
-    stream: Stream,
+pub(crate) struct Flight {
+    pub(crate) tariff_hours: u16,
+    pub(crate) tariff_gain: u16,
+    pub(crate) tariff_pay: u16,
+    pub(crate) free_deal_hours: u16,
+    pub(crate) grower_share: u16,
+    pub(crate) pilot_share: u16,
 }
 
-fn put_comma(page: &mut [u8], stream: Stream, is_first: bool) -> Stream {
-    if is_first {
-        return stream;
+pub(crate) fn flight_of(settled: Settled, i: u16, j: u16) -> Option<Flight> {
+    let tariff_hours = settled.agreed(Quantity::TariffHours, i, j);
+    let free_deal_hours = settled.agreed(Quantity::FreeDealHours, i, j);
+    if tariff_hours == 0 && free_deal_hours == 0 {
+        return None;
     }
-    put(page, stream, b",")
+    let pilot_share = settled.agreed(Quantity::Pay, i, j);
+    let kept = settled
+        .term(Quantity::JointGain, i, j)
+        .saturating_sub(pilot_share);
+    Some(Flight {
+        tariff_hours,
+        tariff_gain: settled.term(Quantity::TariffGain, i, j),
+        tariff_pay: settled.term(Quantity::TariffPay, i, j),
+        free_deal_hours,
+        grower_share: if free_deal_hours == 0 { 0 } else { kept },
+        pilot_share,
+    })
 }
 
-fn with_pair(page: &mut [u8], before: Put, terms: &[u16], agreed: &[u16], i: u16, j: u16) -> Put {
-    if !flies(agreed, i, j) {
-        return before;
-    }
-    let told = before.stream;
-    let parted = put_comma(page, told, !before.pairs);
-    let stream = put_pair(page, parted, terms, agreed, i, j);
-    Put {
-        pairs: true,
-        stream,
+impl fmt::Display for Flight {
+    fn fmt<W: fmt::Write>(&self, f: &mut fmt::Formatter<W>) -> fmt::Result {
+        write!(
+            f,
+            "\"tariff_hours\":{},\"tariff_gain\":{},\"tariff_pay\":{},\"free_deal_hours\":{},\"grower_share\":{},\"pilot_share\":{}",
+            self.tariff_hours,
+            self.tariff_gain,
+            self.tariff_pay,
+            self.free_deal_hours,
+            self.grower_share,
+            self.pilot_share
+        )
     }
 }
 
-fn put_pairs(page: &mut [u8], stream: Stream, terms: &[u16], agreed: &[u16]) -> Stream {
-    let growers = entry(terms, 1);
-    let pilots = entry(terms, 2);
-    let mut now = Put {
-        pairs: false,
-        stream,
-    };
-    for i in 0..growers {
-        for j in 0..pilots {
-            let after = with_pair(page, now, terms, agreed, i, j);
-            now = after;
+// The sheet of a settled ticket as an object, with the count of the marker.
+#[derive(Clone, Copy)]
+pub struct SheetObject<'a> {
+    pub settled: Settled<'a>,
+    pub count: usize,
+}
+
+impl<'a> fmt::Display for SheetObject<'a> {
+    fn fmt<W: fmt::Write>(&self, f: &mut fmt::Formatter<W>) -> fmt::Result {
+        let growers = self.settled.parties(Side::Growers);
+        let pilots = self.settled.parties(Side::Pilots);
+        write!(f, "{{\"growers\":{growers},\"pilots\":{pilots},\"pairs\":[")?;
+        let mut comma = "";
+        for i in 0..growers {
+            for j in 0..pilots {
+                if let Some(flight) = flight_of(self.settled, i, j) {
+                    write!(f, "{comma}{{\"grower\":{i},\"pilot\":{j},{flight}}}")?;
+                    comma = ",";
+                }
+            }
         }
+        writeln!(f, "],\"count\":{}}}", self.count)
     }
-    now.stream
-}
-
-// The sheet as an object, with the count of the marker.
-pub fn put_sheet_object(
-    page: &mut [u8],
-    stream: Stream,
-    terms: &[u16],
-    agreed: &[u16],
-    count: usize,
-) -> Stream {
-    let begun = fill_in(
-        page,
-        stream,
-        b"{\"growers\":%,\"pilots\":%,\"pairs\":[",
-        &[entry(terms, 1) as u64, entry(terms, 2) as u64],
-    );
-    let pairs = put_pairs(page, begun, terms, agreed);
-    fill_in(page, pairs, b"],\"count\":%}\n", &[count as u64])
 }

@@ -1,107 +1,41 @@
 // The account of a settlement: what it brings everybody.
-use crate::files_in::read_operand;
+use crate::files_in::{operand_at, read_operand};
 use crate::refusals::{refuse_bytes, tell_why};
-use accounts::Account;
-use checks::Document;
-use commands::{Asked, FAILED, NOT_SOUND, operand, written};
-use files::{Got, Standard};
-use reader::Reply;
+use crate::sheet::unpack_ticket;
+use answer_texts::AccountLines;
+use checks::{Document, Refusal};
+use commands::{Asked, Status};
+use files::{Told, print};
+use printing::Refused;
 
-fn print(rt: &HostRuntime, list: [u32; 48], growers: usize, pilots: usize) -> i32 {
-    let mut page = io::large_buffer();
-    let lines = answer_texts::put_account(
-        &mut page,
-        files::to(rt, Standard::Output),
-        list,
-        growers,
-        pilots,
-    );
-    written(files::finish(&page, lines))
-}
-
-// A settlement that is refused, or is not sound.
-fn refuse(rt: &HostRuntime, asked: Asked, why: u8, document: Document, settlement: &[u8]) -> i32 {
-    if why != checks::NOT_SOUND {
-        return refuse_bytes(rt, asked, 1, why, document, settlement);
-    }
-    let mut page = io::buffer();
-    let line = printing::put_refused(&mut page, files::to(rt, Standard::Output), why);
-    if !files::finish(&page, line) {
-        return FAILED;
-    }
-    let mut name = io::buffer();
-    let length = operand(rt, asked, 1, &mut name);
-    tell_why(rt, ascii::front(&name, length), why);
-    NOT_SOUND
-}
-
-fn tell(
-    rt: &HostRuntime,
-    asked: Asked,
-    growers: usize,
-    pilots: usize,
-    account: Account,
-    settlement: &[u8],
-) -> i32 {
-    let reply = account.reply;
-    match reply {
-        Reply::Refused { why } => refuse(
-            rt,
-            asked,
-            why,
-            Document::Settlement { growers, pilots },
-            settlement,
-        ),
-        Reply::Done { count: _ } => {
-            let list = account.list;
-            print(rt, list, growers, pilots)
+pub(crate) fn account(rt: &HostRuntime, asked: Asked) -> Result<Status, Told> {
+    let mut file = files::ticket_bytes();
+    let ticket = read_operand(rt, asked, 0, &mut file)?;
+    let mut list = numbers::ticket_list();
+    let terms = unpack_ticket(rt, asked, ticket, &mut list)?;
+    let growers = tables::growers(terms);
+    let pilots = tables::pilots(terms);
+    let mut bytes = files::settlement_bytes();
+    let settlement = read_operand(rt, asked, 1, &mut bytes)?;
+    match accounts::account(ticket, settlement) {
+        Ok(account) => {
+            let lines = AccountLines {
+                amounts: account.list,
+                growers,
+                pilots,
+            };
+            print(rt, &lines)?;
+            Ok(Status::Done)
         }
-    }
-}
-
-// The account of the settlement that is the second operand.
-fn account_for(
-    rt: &HostRuntime,
-    asked: Asked,
-    ticket: &[u8],
-    growers: usize,
-    pilots: usize,
-) -> i32 {
-    let mut settlement = files::settlement_bytes();
-    let got = read_operand(rt, asked, 1, &mut settlement);
-    match got {
-        Got::Failed => FAILED,
-        Got::Bytes { count } => tell(
-            rt,
-            asked,
-            growers,
-            pilots,
-            accounts::account(ticket, ascii::front(&settlement, count)),
-            ascii::front(&settlement, count),
-        ),
-    }
-}
-
-fn account_with(rt: &HostRuntime, asked: Asked, ticket: &[u8]) -> i32 {
-    let mut terms = numbers::ticket_list();
-    let reply = reader::unpack(ticket, &mut terms);
-    match reply {
-        Reply::Refused { why } => refuse_bytes(rt, asked, 0, why, Document::Ticket, ticket),
-        Reply::Done { count: _ } => account_for(
-            rt,
-            asked,
-            ticket,
-            tables::growers(&terms),
-            tables::pilots(&terms),
-        ),
-    }
-}
-
-pub(crate) fn account(rt: &HostRuntime, asked: Asked) -> i32 {
-    let mut ticket = files::ticket_bytes();
-    let got = read_operand(rt, asked, 0, &mut ticket);
-    match got {
-        Got::Failed => FAILED,
-        Got::Bytes { count } => account_with(rt, asked, ascii::front(&ticket, count)),
+        Err(Refusal::NotSound) => {
+            let why = Refusal::NotSound;
+            print(rt, &Refused { why })?;
+            tell_why(rt, operand_at(rt, asked, 1).bytes(), why);
+            Ok(Status::NotSound)
+        }
+        Err(why) => {
+            let document = Document::Settlement { growers, pilots };
+            Err(refuse_bytes(rt, asked, 1, why, document, settlement))
+        }
     }
 }

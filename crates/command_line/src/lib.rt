@@ -1,6 +1,6 @@
 // The exchange on the command line, as one function: tickets and settlements are files that are named by arguments. What it says rests on
-// the proved libraries beneath; the functions here are proved safe, and held to the stored output of the program `exchange`. Text is
-// gathered before it is written, answers go to standard output, and all else goes to standard error.
+// the proved libraries beneath; the functions here are proved safe, and held to the stored output of the program `exchange`. Answers go
+// to standard output, and all else goes to standard error.
 #![tactic(auto)]
 
 mod account; // account.rt: what a settlement brings everybody
@@ -11,12 +11,12 @@ mod marking; // marking.rt: settlements marked
 mod packing; // packing.rt: documents as text, and back
 mod refusals; // refusals.rt: what is said of a refusal
 mod sheet; // sheet.rt: a ticket settled
-mod sheet_table; // sheet_table.rt: the same for people
 mod window_files; // window_files.rt: a ticket for everybody's windows
 
-use commands::{Asked, Command, FAILED, asked_for, command_of, fits};
+use commands::{Asked, Command, Status, asked_for, command_of, fits};
+use files::Told;
 
-fn run_command(rt: &HostRuntime, command: Command, asked: Asked) -> i32 {
+fn run_command(rt: &HostRuntime, command: Command, asked: Asked) -> Result<Status, Told> {
     match command {
         Command::Sheet => sheet::sheet(rt, asked),
         Command::Settle => sheet::settle(rt, asked),
@@ -27,30 +27,28 @@ fn run_command(rt: &HostRuntime, command: Command, asked: Asked) -> i32 {
         Command::Draw => drawing::draw(rt, asked),
         Command::Windows => window_files::windows(rt, asked),
         Command::Desk => sheet::desk(rt, asked),
-        _ => FAILED,
+        _ => Err(Told),
     }
 }
 
 // A command with its arguments.
-fn run_asked(rt: &HostRuntime, command: Command, asked: Asked) -> i32 {
+fn run_asked(rt: &HostRuntime, command: Command, asked: Asked) -> Result<Status, Told> {
     if asked.help {
         return commands::help_for(rt, command);
     }
-    if fits(rt, command, asked) {
-        return run_command(rt, command, asked);
-    }
-    FAILED
+    fits(rt, command, asked)?;
+    run_command(rt, command, asked)
 }
 
-// Runs the command that the program's arguments name, and answers the exit status.
-pub fn exchange_run(rt: &HostRuntime) -> i32 {
-    let mut word = io::buffer();
-    let length = commands::argument(rt, 1, &mut word);
-    let command = command_of(&word[..length]);
-    match command {
-        Command::Unknown => commands::no_command(rt, &word[..length]),
+// Runs the command that the program's arguments name.
+pub fn exchange_run(rt: &HostRuntime) -> Status {
+    let word = files_in::word_at(rt, 1);
+    let command = command_of(word.bytes());
+    let status = match command {
+        Command::Unknown => commands::no_command(rt, word.bytes()),
         Command::Help => commands::help(rt),
         Command::Version => commands::version(rt),
         _ => run_asked(rt, command, asked_for(rt, command)),
-    }
+    };
+    status.unwrap_or(Status::Failed)
 }

@@ -2,84 +2,64 @@
 // words by where they stand.
 use layouts::Layout;
 
-// How far a text is read: on which line, how many numbers have begun, whether words have, and whether a word or a comment goes on.
+// What the last byte was.
+#[derive(Clone, Copy, Debug, PartialEq, Eq)]
+enum Inside {
+    Blanks,
+    Word,
+    Comment,
+}
+
+// How far a text is read: on which line, how many numbers have begun, and whether words have.
 #[derive(Clone, Copy)]
 struct Walk {
     line: usize,
     numbers: usize,
     worded: bool,
-    inside: bool,
-    comment: bool,
+    inside: Inside,
 }
 
-fn start() -> Walk {
-    Walk {
-        line: 1,
-        numbers: 0,
-        worded: false,
-        inside: false,
-        comment: false,
+const START: Walk = Walk {
+    line: 1,
+    numbers: 0,
+    worded: false,
+    inside: Inside::Blanks,
+};
+
+impl Walk {
+    // The first byte of a number or a word.
+    fn begin(&mut self, byte: u8) {
+        self.inside = Inside::Word;
+        if byte.is_ascii_digit() {
+            self.numbers = self.numbers.saturating_add(1);
+        } else {
+            self.worded = true;
+        }
     }
-}
 
-fn next(count: usize) -> usize {
-    if count < usize::MAX { count + 1 } else { count }
-}
-
-fn is_white(byte: u8) -> bool {
-    byte == 32 || (9 <= byte && byte <= 13)
-}
-
-fn is_digit(byte: u8) -> bool {
-    48 <= byte && byte <= 57
-}
-
-// The first byte of a number or a word.
-fn begun(walk: Walk, byte: u8) -> Walk {
-    let mut after = walk;
-    after.inside = true;
-    if is_digit(byte) {
-        after.numbers = next(walk.numbers);
-    } else {
-        after.worded = true;
+    fn take(&mut self, byte: u8) {
+        match byte {
+            b'\n' => {
+                self.line = self.line.saturating_add(1);
+                self.inside = Inside::Blanks;
+            }
+            _ if self.inside == Inside::Comment => {}
+            b'#' => self.inside = Inside::Comment,
+            b' ' | 9..=13 => self.inside = Inside::Blanks,
+            _ if self.inside == Inside::Word => {}
+            _ => self.begin(byte),
+        }
     }
-    after
-}
-
-fn line_ended(walk: Walk) -> Walk {
-    let mut after = walk;
-    after.line = next(walk.line);
-    after.inside = false;
-    after.comment = false;
-    after
-}
-
-fn with_byte(walk: Walk, byte: u8) -> Walk {
-    if byte == 10 {
-        return line_ended(walk);
-    }
-    let mut after = walk;
-    if byte == 35 {
-        after.comment = true;
-    }
-    if is_white(byte) {
-        after.inside = false;
-    }
-    if after.comment || walk.inside || is_white(byte) {
-        return after;
-    }
-    begun(walk, byte)
 }
 
 // Walks a text to the start of a number, or to the end if it has fewer. Numbers count from 0.
 fn walked(text: &[u8], number: usize) -> Walk {
-    let mut walk = start();
-    for k in 0..text.len() {
-        let after = with_byte(walk, text[k]);
-        if number < after.numbers {
-            return after;
+    let mut walk = START;
+    for &byte in text {
+        walk.take(byte);
+        if number < walk.numbers {
+            return walk;
         }
-        walk = after;
     }
     walk
 }

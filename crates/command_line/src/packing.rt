@@ -1,12 +1,12 @@
 // Documents as text, and texts as documents: a ticket or a settlement. A settlement is read for the growers and pilots that it names.
-use crate::files_in::{read_operand, write_operand};
+use crate::files_in::{byte_at, operand_at, read_operand, write_operand};
 use crate::refusals::{refuse_bytes, refuse_text};
-use checks::Document;
-use commands::{Asked, FAILED, operand, written};
-use files::{Got, Standard, Stream, complain_of, fill_in};
-use layouts::{Layout, TextError, TextRead};
+use answer_texts::DocumentObject;
+use checks::{Document, Refusal};
+use commands::{Asked, Status};
+use files::{About, Text, Told, message, print};
+use layouts::{Layout, TextError};
 use numbers::entry;
-use reader::Reply;
 
 // As many numbers as a text of 65,535 bytes can list, so that a list that is too long is refused as one that has numbers left.
 pub(crate) fn listed_numbers() -> [u16; 32768] {
@@ -15,22 +15,7 @@ pub(crate) fn listed_numbers() -> [u16; 32768] {
 
 // A number of parties that a settlement can be read for. One that it can not have is then refused as another than asked.
 fn parties(count: usize) -> usize {
-    if count < 1 {
-        return 1;
-    }
-    numbers::within(count)
-}
-
-fn widened(byte: u8) -> usize {
-    byte as usize
-}
-
-fn byte_at(file: &[u8], place: usize) -> usize {
-    if place < file.len() {
-        widened(file[place])
-    } else {
-        0
-    }
+    numbers::within(count).max(1)
 }
 
 // A settlement that names so many growers and pilots.
@@ -44,12 +29,12 @@ fn settlement_of(growers: usize, pilots: usize) -> Document {
 // Which document a file is to be, by the kind and the growers and pilots that it begins with.
 fn document_of(file: &[u8]) -> Document {
     if byte_at(file, 0) == 2 {
-        return settlement_of(byte_at(file, 1), byte_at(file, 2));
+        return settlement_of(usize::from(byte_at(file, 1)), usize::from(byte_at(file, 2)));
     }
     Document::Ticket
 }
 
-fn read_document(document: Document, file: &[u8], list: &mut [u16]) -> Reply {
+fn read_document(document: Document, file: &[u8], list: &mut [u16]) -> Result<usize, Refusal> {
     match document {
         Document::Ticket => reader::unpack(file, list),
         Document::Settlement { growers, pilots } => reader::read_settlement(
@@ -58,7 +43,7 @@ fn read_document(document: Document, file: &[u8], list: &mut [u16]) -> Reply {
     }
 }
 
-fn write_document(document: Document, list: &[u16], file: &mut [u8]) -> Reply {
+fn write_document(document: Document, list: &[u16], file: &mut [u8]) -> Result<usize, Refusal> {
     match document {
         Document::Ticket => reader::pack(list, file),
         Document::Settlement { growers, pilots } => reader::write_settlement(
@@ -75,63 +60,53 @@ fn layout_of(list: &[u16]) -> Layout {
     }
 }
 
-fn put_document(page: &mut [u8], stream: Stream, asked: Asked, list: &[u16]) -> Stream {
-    if asked.json {
-        return answer_texts::put_document(page, stream, list);
-    }
-    printing::put_document(page, stream, layout_of(list), list)
-}
-
-fn print(rt: &HostRuntime, asked: Asked, list: &[u16]) -> i32 {
-    let mut page = io::large_buffer();
-    let text = put_document(&mut page, files::to(rt, Standard::Output), asked, list);
-    written(files::finish(&page, text))
-}
-
-fn unpack_file(rt: &HostRuntime, asked: Asked, file: &[u8]) -> i32 {
+pub(crate) fn unpack(rt: &HostRuntime, asked: Asked) -> Result<Status, Told> {
+    let mut bytes = files::ticket_bytes();
+    let file = read_operand(rt, asked, 0, &mut bytes)?;
     let document = document_of(file);
-    let mut list = numbers::ticket_list();
-    let reply = read_document(document, file, &mut list);
-    match reply {
-        Reply::Refused { why } => refuse_bytes(rt, asked, 0, why, document, file),
-        Reply::Done { count } => print(rt, asked, numbers::front(&list, count)),
+    let mut numbers = numbers::ticket_list();
+    let list = match read_document(document, file, &mut numbers) {
+        Ok(count) => numbers::front(&numbers, count),
+        Err(why) => return Err(refuse_bytes(rt, asked, 0, why, document, file)),
+    };
+    if asked.json {
+        print(rt, &DocumentObject { list })?;
+    } else {
+        let layout = layout_of(list);
+        print(rt, &printing::Document { layout, list })?;
     }
-}
-
-pub(crate) fn unpack(rt: &HostRuntime, asked: Asked) -> i32 {
-    let mut file = files::ticket_bytes();
-    let got = read_operand(rt, asked, 0, &mut file);
-    match got {
-        Got::Failed => FAILED,
-        Got::Bytes { count } => unpack_file(rt, asked, ascii::front(&file, count)),
-    }
+    Ok(Status::Done)
 }
 
 // What is wrong with the text that is an operand.
-pub(crate) fn refuse_operand(rt: &HostRuntime, asked: Asked, place: usize, words: &[u8]) -> i32 {
-    let mut name = io::buffer();
-    let length = operand(rt, asked, place, &mut name);
-    complain_of(rt, ascii::front(&name, length), words);
-    FAILED
-}
-
-// The same of a line of it.
-pub(crate) fn refuse_line(
+pub(crate) fn refuse_operand(
     rt: &HostRuntime,
     asked: Asked,
     place: usize,
-    line: usize,
-    words: &[u8],
-) -> i32 {
-    let mut name = io::buffer();
-    let length = operand(rt, asked, place, &mut name);
-    let mut page = io::large_buffer();
-    let begun = files::message_of(rt, &mut page, ascii::front(&name, length));
-    let at = fill_in(&mut page, begun, b": line %: ", &[line as u64]);
-    let told = files::put(&mut page, at, words);
-    let whole = files::put(&mut page, told, b"\n");
-    files::flush(&page, whole);
-    FAILED
+    text: impl Text + Drop,
+) -> Told {
+    let word = operand_at(rt, asked, place);
+    let name = word.bytes();
+    message(rt, &About { name, text });
+    Told
+}
+
+// What a text of more bytes or numbers than can be read is told.
+pub(crate) const TOO_LONG: &str = "more than 65535 bytes";
+
+pub(crate) const NO_ROOM: &str = "more than 32768 numbers";
+
+// What is wrong with a line.
+#[derive(Clone, Copy)]
+pub(crate) struct OnLine {
+    pub(crate) line: usize,
+    pub(crate) words: &'static str,
+}
+
+impl std::fmt::Display for OnLine {
+    fn fmt<W: std::fmt::Write>(&self, f: &mut std::fmt::Formatter<W>) -> std::fmt::Result {
+        write!(f, "line {}: {}", self.line, self.words)
+    }
 }
 
 fn document_in(layout: Layout, list: &[u16]) -> Document {
@@ -144,42 +119,47 @@ fn document_in(layout: Layout, list: &[u16]) -> Document {
     }
 }
 
-// A list of numbers as a document, to the file that is the second operand.
-fn pack_list(rt: &HostRuntime, asked: Asked, layout: Layout, list: &[u16], text: &[u8]) -> i32 {
+// Why a text is none of a document.
+fn refuse_as_text(rt: &HostRuntime, asked: Asked, error: TextError) -> Told {
+    match error {
+        TextError::Wrong { line } => {
+            let words = "not as unpack prints it";
+            refuse_operand(rt, asked, 0, OnLine { line, words })
+        }
+        TextError::TooLong => refuse_operand(rt, asked, 0, TOO_LONG),
+        TextError::NoRoom => refuse_operand(rt, asked, 0, NO_ROOM),
+    }
+}
+
+// A text that is an operand, unless it is too long.
+pub(crate) fn read_text<'a>(
+    rt: &HostRuntime,
+    asked: Asked,
+    place: usize,
+    buffer: &'a mut [u8; 65536],
+) -> Result<&'a [u8], Told> {
+    let text = read_operand(rt, asked, place, buffer)?;
+    if text.len() < 65536 {
+        return Ok(text);
+    }
+    Err(refuse_operand(rt, asked, place, TOO_LONG))
+}
+
+pub(crate) fn pack(rt: &HostRuntime, asked: Asked) -> Result<Status, Told> {
+    let mut buffer = [0u8; 65536];
+    let text = read_text(rt, asked, 0, &mut buffer)?;
+    let mut numbers = listed_numbers();
+    let (layout, list) = match layouts::read(text, &mut numbers) {
+        Ok(read) => (read.layout, numbers::front(&numbers, read.count)),
+        Err(error) => return Err(refuse_as_text(rt, asked, error)),
+    };
     let document = document_in(layout, list);
     let mut file = files::ticket_bytes();
-    let reply = write_document(document, list, &mut file);
-    match reply {
-        Reply::Refused { why } => refuse_text(rt, asked, why, document, list, text),
-        Reply::Done { count } => write_operand(rt, asked, 1, ascii::front(&file, count)),
+    match write_document(document, list, &mut file) {
+        Ok(count) => {
+            write_operand(rt, asked, 1, ascii::front(&file, count))?;
+            Ok(Status::Done)
+        }
+        Err(why) => Err(refuse_text(rt, asked, why, document, list, text)),
     }
-}
-
-fn pack_text(rt: &HostRuntime, asked: Asked, text: &[u8]) -> i32 {
-    let mut list = listed_numbers();
-    let got = layouts::read(text, &mut list);
-    match got {
-        Err(TextError::Wrong { line }) => refuse_line(rt, asked, 0, line, b"not as unpack prints it"),
-        Err(TextError::TooLong) => refuse_operand(rt, asked, 0, b"more than 65535 bytes"),
-        Err(TextError::NoRoom) => refuse_operand(rt, asked, 0, b"more than 32768 numbers"),
-        Ok(TextRead { layout, count }) => pack_list(
-            rt,
-            asked,
-            layout,
-            numbers::front(&list, count),
-            text,
-        ),
-    }
-}
-
-pub(crate) fn pack(rt: &HostRuntime, asked: Asked) -> i32 {
-    let mut text = io::large_buffer();
-    let got = read_operand(rt, asked, 0, &mut text);
-    let Got::Bytes { count } = got else {
-        return FAILED;
-    };
-    if count < 65536 {
-        return pack_text(rt, asked, ascii::front(&text, count));
-    }
-    refuse_operand(rt, asked, 0, b"more than 65535 bytes")
 }

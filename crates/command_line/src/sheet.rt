@@ -1,133 +1,166 @@
-// A ticket settled: its sheet, its settlement as a file, or a desk that holds it open.
-use crate::files_in::{read_operand, write_operand};
+// A ticket settled: its sheet, as lines, an object or a table for people; its settlement as a file; or a desk that holds it open.
+use crate::files_in::{read_operand, word_at, write_operand};
 use crate::refusals::refuse_bytes;
-use crate::sheet_table::print_table;
-use checks::Document;
-use commands::{Asked, DONE, FAILED, written};
-use desk::Served;
-use files::{Got, Standard, Stream};
-use reader::Reply;
+use answer_texts::{SheetObject, Table};
+use checks::{Document, Refusal};
+use commands::{Asked, Status};
+use desk::Closed;
+use files::{Told, print};
+use printing::Sheet;
+use words::Settled;
 
-fn put_object_of(
-    page: &mut [u8],
-    stream: Stream,
+// A ticket as a list, unless it is refused.
+pub(crate) fn unpack_ticket<'a>(
+    rt: &HostRuntime,
+    asked: Asked,
+    ticket: &[u8],
+    list: &'a mut [u16],
+) -> Result<&'a [u16], Told> {
+    match reader::unpack(ticket, list) {
+        Ok(count) => Ok(numbers::front(list, count)),
+        Err(why) => Err(refuse_bytes(rt, asked, 0, why, Document::Ticket, ticket)),
+    }
+}
+
+// Writes the settlement of a ticket that was read to a list, and answers how long the settlement and the list are.
+fn settle_lists(
     ticket: &[u8],
     terms: &[u16],
-    settlement: &[u8],
-) -> Stream {
+    settlement: &mut [u8],
+    agreed: &mut [u16],
+) -> Result<(usize, usize), Refusal> {
+    let length = settler::settle(ticket, settlement)?;
     let growers = tables::growers(terms);
     let pilots = tables::pilots(terms);
-    let mut agreed = numbers::settlement_list();
-    let reply = reader::read_settlement(settlement, growers, pilots, &mut agreed);
-    match reply {
-        Reply::Refused { why: _ } => stream,
-        Reply::Done { count } => {
-            let values = verdicts::values_of(marker::mark(ticket, settlement));
-            answer_texts::put_sheet_object(
-                page,
-                stream,
-                terms,
-                numbers::front(&agreed, count),
-                values.count,
+    let settled = ascii::front(settlement, length);
+    let count = reader::read_settlement(settled, growers, pilots, agreed)?;
+    Ok((length, count))
+}
+
+fn print_object(
+    rt: &HostRuntime,
+    settled: Settled,
+    ticket: &[u8],
+    settlement: &[u8],
+) -> Result<(), Told> {
+    let count = verdicts::values_of(marker::mark(ticket, settlement)).count;
+    print(rt, &SheetObject { settled, count })
+}
+
+// The account is that of a sound settlement.
+fn print_table(
+    rt: &HostRuntime,
+    asked: Asked,
+    settled: Settled,
+    ticket: &[u8],
+    settlement: &[u8],
+) -> Result<(), Told> {
+    let mut text = [0u8; 65536];
+    let names = match asked.names {
+        0 => b"".as_slice(),
+        argument => files::read(rt, word_at(rt, argument).bytes(), &mut text)?,
+    };
+    match accounts::account(ticket, settlement) {
+        Ok(account) => {
+            let amounts = account.list;
+            print(
+                rt,
+                &Table {
+                    names,
+                    settled,
+                    amounts,
+                },
             )
         }
+        Err(why) => Err(refuse_bytes(rt, asked, 0, why, Document::Ticket, ticket)),
     }
 }
 
-fn put_json(page: &mut [u8], stream: Stream, ticket: &[u8], terms: &[u16]) -> Stream {
-    let mut settlement = files::settlement_bytes();
-    let reply = settler::settle(ticket, &mut settlement);
-    match reply {
-        Reply::Refused { why: _ } => stream,
-        Reply::Done { count } => put_object_of(
-            page,
-            stream,
-            ticket,
-            terms,
-            ascii::front(&settlement, count),
-        ),
-    }
+// How a sheet is printed.
+#[derive(Clone, Copy, Debug, PartialEq, Eq)]
+enum Form {
+    Lines,
+    Object,
+    Table,
 }
 
-// The sheet of a ticket that was read.
-pub(crate) fn put_sheet(
-    page: &mut [u8],
-    stream: Stream,
-    json: bool,
+fn print_as(
+    rt: &HostRuntime,
+    asked: Asked,
+    form: Form,
     ticket: &[u8],
     terms: &[u16],
-) -> Stream {
-    if json {
-        return put_json(page, stream, ticket, terms);
+) -> Result<(), Told> {
+    if form == Form::Lines {
+        return print(rt, &Sheet { ticket });
     }
-    printing::put_sheet(page, stream, ticket)
+    let mut bytes = files::settlement_bytes();
+    let mut list = numbers::settlement_list();
+    match settle_lists(ticket, terms, &mut bytes, &mut list) {
+        Ok((length, count)) => {
+            let settlement = ascii::front(&bytes, length);
+            let settled = Settled {
+                ticket: terms,
+                settlement: numbers::front(&list, count),
+            };
+            if form == Form::Table {
+                return print_table(rt, asked, settled, ticket, settlement);
+            }
+            print_object(rt, settled, ticket, settlement)
+        }
+        Err(why) => Err(refuse_bytes(rt, asked, 0, why, Document::Ticket, ticket)),
+    }
 }
 
-fn print(rt: &HostRuntime, asked: Asked, ticket: &[u8], terms: &[u16]) -> i32 {
+// Prints the sheet of a ticket that was read, as lines or as an object.
+pub(crate) fn print_sheet(
+    rt: &HostRuntime,
+    asked: Asked,
+    ticket: &[u8],
+    terms: &[u16],
+) -> Result<(), Told> {
+    let form = if asked.json {
+        Form::Object
+    } else {
+        Form::Lines
+    };
+    print_as(rt, asked, form, ticket, terms)
+}
+
+pub(crate) fn sheet(rt: &HostRuntime, asked: Asked) -> Result<Status, Told> {
+    let mut file = files::ticket_bytes();
+    let ticket = read_operand(rt, asked, 0, &mut file)?;
+    let mut list = numbers::ticket_list();
+    let terms = unpack_ticket(rt, asked, ticket, &mut list)?;
     if asked.table && !asked.json {
-        return print_table(rt, asked, ticket, terms);
+        print_as(rt, asked, Form::Table, ticket, terms)?;
+    } else {
+        print_sheet(rt, asked, ticket, terms)?;
     }
-    let mut page = io::large_buffer();
-    let sheet = put_sheet(
-        &mut page,
-        files::to(rt, Standard::Output),
-        asked.json,
-        ticket,
-        terms,
-    );
-    written(files::finish(&page, sheet))
+    Ok(Status::Done)
 }
 
-fn sheet_of(rt: &HostRuntime, asked: Asked, ticket: &[u8]) -> i32 {
-    let mut terms = numbers::ticket_list();
-    let reply = reader::unpack(ticket, &mut terms);
-    match reply {
-        Reply::Refused { why } => refuse_bytes(rt, asked, 0, why, Document::Ticket, ticket),
-        Reply::Done { count } => print(rt, asked, ticket, numbers::front(&terms, count)),
-    }
-}
-
-pub(crate) fn sheet(rt: &HostRuntime, asked: Asked) -> i32 {
-    let mut ticket = files::ticket_bytes();
-    let got = read_operand(rt, asked, 0, &mut ticket);
-    match got {
-        Got::Failed => FAILED,
-        Got::Bytes { count } => sheet_of(rt, asked, ascii::front(&ticket, count)),
-    }
-}
-
-fn settle_ticket(rt: &HostRuntime, asked: Asked, ticket: &[u8]) -> i32 {
+pub(crate) fn settle(rt: &HostRuntime, asked: Asked) -> Result<Status, Told> {
+    let mut file = files::ticket_bytes();
+    let ticket = read_operand(rt, asked, 0, &mut file)?;
     let mut settlement = files::settlement_bytes();
-    let reply = settler::settle(ticket, &mut settlement);
-    match reply {
-        Reply::Refused { why } => refuse_bytes(rt, asked, 0, why, Document::Ticket, ticket),
-        Reply::Done { count } => write_operand(rt, asked, 1, ascii::front(&settlement, count)),
+    match settler::settle(ticket, &mut settlement) {
+        Ok(count) => {
+            write_operand(rt, asked, 1, ascii::front(&settlement, count))?;
+            Ok(Status::Done)
+        }
+        Err(why) => Err(refuse_bytes(rt, asked, 0, why, Document::Ticket, ticket)),
     }
 }
 
-pub(crate) fn settle(rt: &HostRuntime, asked: Asked) -> i32 {
-    let mut ticket = files::ticket_bytes();
-    let got = read_operand(rt, asked, 0, &mut ticket);
-    match got {
-        Got::Failed => FAILED,
-        Got::Bytes { count } => settle_ticket(rt, asked, ascii::front(&ticket, count)),
-    }
-}
-
-fn serve(rt: &HostRuntime, asked: Asked, ticket: &[u8]) -> i32 {
-    let served = desk::serve(rt, ticket);
-    match served {
-        Served::Refused { why } => refuse_bytes(rt, asked, 0, why, Document::Ticket, ticket),
-        Served::Failed => FAILED,
-        Served::Done => DONE,
-    }
-}
-
-pub(crate) fn desk(rt: &HostRuntime, asked: Asked) -> i32 {
-    let mut ticket = files::ticket_bytes();
-    let got = read_operand(rt, asked, 0, &mut ticket);
-    match got {
-        Got::Failed => FAILED,
-        Got::Bytes { count } => serve(rt, asked, ascii::front(&ticket, count)),
+pub(crate) fn desk(rt: &HostRuntime, asked: Asked) -> Result<Status, Told> {
+    let mut file = files::ticket_bytes();
+    let ticket = read_operand(rt, asked, 0, &mut file)?;
+    match desk::serve(rt, ticket) {
+        Ok(()) => Ok(Status::Done),
+        Err(Closed::Failed) => Err(Told),
+        Err(Closed::Refused { why }) => {
+            Err(refuse_bytes(rt, asked, 0, why, Document::Ticket, ticket))
+        }
     }
 }

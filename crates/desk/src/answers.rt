@@ -1,162 +1,124 @@
 // The answer to a line.
 use crate::saving::{pack, save};
+use checks::Refusal;
 use desk_calls::{Call, Fault, call_of, word};
-use files::{Standard, Stream, complain, put};
+use files::{Told, message, print};
 use layouts::Layout;
-use open_market::{Answer, Market, Terms};
-use reader::Reply;
-
-// The market after a line, and whether the answer could not be written.
-#[derive(Clone, Copy)]
-pub(crate) struct After {
-    pub(crate) market: Market,
-    pub(crate) failed: bool,
-}
-
-// What a call that sets something answers.
-fn put_reply(page: &mut [u8], stream: Stream, refusal: u8) -> Stream {
-    if refusal == 0 {
-        return put(page, stream, b"OK\n");
-    }
-    printing::put_refused(page, stream, refusal)
-}
+use open_market::{Market, Terms};
+use printing::{Document, FreeHours, Refused, Sheet};
+use words::Reason;
 
 // The market after a call that sets something. Why it was refused is told after the answer.
-fn changed(rt: &HostRuntime, answer: Answer) -> After {
-    let mut page = io::buffer();
-    let told = put_reply(&mut page, files::to(rt, Standard::Output), answer.refusal);
-    let done = files::finish(&page, told);
-    if answer.refusal != 0 {
-        printing::tell_refusal(rt, answer.refusal);
-    }
-    let market = answer.market;
-    After {
-        market,
-        failed: !done,
+fn set(rt: &HostRuntime, market: Market, outcome: Result<Market, Refusal>) -> Result<Market, Told> {
+    match outcome {
+        Ok(after) => {
+            print(rt, &"OK\n")?;
+            Ok(after)
+        }
+        Err(why) => {
+            let done = print(rt, &Refused { why });
+            message(rt, &Reason { why });
+            done?;
+            Ok(market)
+        }
     }
 }
 
-fn put_sheet(page: &mut [u8], stream: Stream, market: Market) -> Stream {
+fn show_sheet(rt: &HostRuntime, market: Market) -> Result<(), Told> {
     let mut ticket = files::ticket_bytes();
-    let reply = pack(market, &mut ticket);
-    match reply {
-        Reply::Refused { why } => printing::put_refused(page, stream, why),
-        Reply::Done { count } => printing::put_sheet(page, stream, ascii::front(&ticket, count)),
+    match pack(market, &mut ticket) {
+        Ok(count) => {
+            let ticket = ascii::front(&ticket, count);
+            print(rt, &Sheet { ticket })
+        }
+        Err(why) => print(rt, &Refused { why }),
     }
 }
 
 // The market holds them, so that nothing is added up here.
-fn put_free_hours(page: &mut [u8], stream: Stream, market: Market) -> Stream {
+fn show_free_hours(rt: &HostRuntime, market: Market) -> Result<(), Told> {
     let ticket = market.ticket;
-    let growers = market.grower_free_hours;
-    let pilots = market.pilot_free_hours;
-    printing::put_free_hours(page, stream, &ticket, growers, pilots)
+    let free = FreeHours {
+        ticket: &ticket,
+        growers: market.grower_free_hours,
+        pilots: market.pilot_free_hours,
+    };
+    print(rt, &free)
 }
 
-fn put_ticket(page: &mut [u8], stream: Stream, market: Market) -> Stream {
+fn show_ticket(rt: &HostRuntime, market: Market) -> Result<(), Told> {
     let ticket = market.ticket;
-    printing::put_document(page, stream, Layout::Ticket, tables::ticket_front(&ticket))
+    let document = Document {
+        layout: Layout::Ticket,
+        list: tables::ticket_front(&ticket),
+    };
+    print(rt, &document)
 }
 
-fn put_saved(
-    rt: &HostRuntime,
-    page: &mut [u8],
-    stream: Stream,
-    market: Market,
-    line: &[u8],
-) -> Stream {
-    if save(rt, market, word(line, 1), word(line, 2)) {
-        return put(page, stream, b"OK\n");
+fn show_saved(rt: &HostRuntime, market: Market, line: &[u8]) -> Result<(), Told> {
+    match save(rt, market, word(line, 1), word(line, 2)) {
+        Ok(()) => print(rt, &"OK\n"),
+        Err(_) => print(rt, &"FAILED\n"),
     }
-    put(page, stream, b"FAILED\n")
 }
 
-fn put_help(page: &mut [u8], stream: Stream) -> Stream {
-    let calls = put(
-        page,
-        stream,
-        b"grower I hours H\npilot J hours H\npair I J TARIFF_CAP A B FREE_CAP C\n",
-    );
-    put(
-        page,
-        calls,
-        b"sheet\nfree\nticket\nsave TICKET SETTLEMENT\nhelp\n",
-    )
-}
+const HELP: &str = "grower I hours H
+pilot J hours H
+pair I J TARIFF_CAP A B FREE_CAP C
+sheet
+free
+ticket
+save TICKET SETTLEMENT
+help
+";
 
-// The answer to a line that is no call, and why it is none.
-fn put_no_call(page: &mut [u8], stream: Stream) -> Stream {
-    put(page, stream, b"?\n")
-}
-
-fn tell_fault(rt: &HostRuntime, fault: Fault) {
+fn words_of(fault: Fault) -> &'static str {
     match fault {
-        Fault::NoSuchCall => complain(rt, b"line: no such call; help lists them"),
-        Fault::WordCount => complain(rt, b"line: too many words, or too few"),
-        Fault::NoHours => complain(rt, b"line: the word hours is missing"),
-        Fault::NoNumber => complain(rt, b"line: not a number up to 65535"),
+        Fault::NoSuchCall => "line: no such call; help lists them",
+        Fault::WordCount => "line: too many words, or too few",
+        Fault::NoHours => "line: the word hours is missing",
+        Fault::NoNumber => "line: not a number up to 65535",
     }
 }
 
-// What a call answers that changes nothing.
-fn put_shown(
-    rt: &HostRuntime,
-    page: &mut [u8],
-    stream: Stream,
-    market: Market,
-    line: &[u8],
-    call: Call,
-) -> Stream {
+// The answer to a line that is no call, and then why it is none.
+fn refuse_line(rt: &HostRuntime, why: &str) -> Result<(), Told> {
+    let done = print(rt, &"?\n");
+    message(rt, &why);
+    done
+}
+
+pub(crate) fn refuse_long(rt: &HostRuntime) -> Result<(), Told> {
+    refuse_line(rt, "line: more than 4096 bytes")
+}
+
+// Answers a call that changes nothing.
+fn show(rt: &HostRuntime, market: Market, line: &[u8], call: Call) -> Result<(), Told> {
     match call {
-        Call::Sheet => put_sheet(page, stream, market),
-        Call::Free => put_free_hours(page, stream, market),
-        Call::Ticket => put_ticket(page, stream, market),
-        Call::Save => put_saved(rt, page, stream, market, line),
-        Call::Help => put_help(page, stream),
-        Call::NoCall { fault: _ } => put_no_call(page, stream),
-        _ => stream,
-    }
-}
-
-// Answers such a call, and tells whether the answer could not be written.
-fn show(rt: &HostRuntime, market: Market, line: &[u8], call: Call) -> bool {
-    let mut page = io::large_buffer();
-    let told = put_shown(
-        rt,
-        &mut page,
-        files::to(rt, Standard::Output),
-        market,
-        line,
-        call,
-    );
-    let done = files::finish(&page, told);
-    if let Call::NoCall { fault } = call {
-        tell_fault(rt, fault);
-    }
-    !done
-}
-
-pub(crate) fn too_long(rt: &HostRuntime, market: Market) -> After {
-    let mut page = io::buffer();
-    let told = put_no_call(&mut page, files::to(rt, Standard::Output));
-    let done = files::finish(&page, told);
-    complain(rt, b"line: more than 4096 bytes");
-    After {
-        market,
-        failed: !done,
+        Call::Sheet => show_sheet(rt, market),
+        Call::Free => show_free_hours(rt, market),
+        Call::Ticket => show_ticket(rt, market),
+        Call::Save => show_saved(rt, market, line),
+        Call::Help => print(rt, &HELP),
+        Call::NoCall { fault } => refuse_line(rt, words_of(fault)),
+        _ => Ok(()),
     }
 }
 
 // The market after a line.
-pub(crate) fn answer(rt: &HostRuntime, market: Market, line: &[u8]) -> After {
+pub(crate) fn answer(rt: &HostRuntime, market: Market, line: &[u8]) -> Result<Market, Told> {
     let call = call_of(line);
     match call {
-        Call::GrowerHours { grower, hours } => {
-            changed(rt, open_market::set_grower_hours(market, grower, hours))
-        }
-        Call::PilotHours { pilot, hours } => {
-            changed(rt, open_market::set_pilot_hours(market, pilot, hours))
-        }
+        Call::GrowerHours { grower, hours } => set(
+            rt,
+            market,
+            open_market::set_grower_hours(market, grower, hours),
+        ),
+        Call::PilotHours { pilot, hours } => set(
+            rt,
+            market,
+            open_market::set_pilot_hours(market, pilot, hours),
+        ),
         Call::Pair {
             grower,
             pilot,
@@ -173,11 +135,15 @@ pub(crate) fn answer(rt: &HostRuntime, market: Market, line: &[u8]) -> After {
                 free_cap,
                 joint_gain,
             };
-            changed(rt, open_market::set_pair(market, grower, pilot, terms))
+            set(
+                rt,
+                market,
+                open_market::set_pair(market, grower, pilot, terms),
+            )
         }
         _ => {
-            let failed = show(rt, market, line, call);
-            After { market, failed }
+            show(rt, market, line, call)?;
+            Ok(market)
         }
     }
 }

@@ -9,26 +9,32 @@ mod dialogue;
 mod lines;
 mod saving;
 
+use checks::Refusal;
 use dialogue::talk;
+use files::Told;
 
-// How a desk ended: the ticket was refused, reading or writing failed, or the input ended.
-#[derive(Clone, Copy)]
-pub enum Served {
-    Refused { why: u8 },
+// Why a desk ended before its input did: the ticket was refused, or reading or writing failed.
+#[derive(Clone, Copy, Debug, PartialEq, Eq)]
+pub enum Closed {
+    Refused { why: Refusal },
     Failed,
-    Done,
+}
+
+impl From<Refusal> for Closed {
+    fn from(why: Refusal) -> Closed {
+        Closed::Refused { why }
+    }
+}
+
+impl From<Told> for Closed {
+    fn from(_told: Told) -> Closed {
+        Closed::Failed
+    }
 }
 
 // Opens the market of a ticket's file, and answers calls until the input ends.
-pub fn serve(rt: &HostRuntime, ticket: &[u8]) -> Served {
-    let answer = open_market::open(ticket);
-    if answer.refusal != 0 {
-        return Served::Refused {
-            why: answer.refusal,
-        };
-    }
-    if talk(rt, answer.market) {
-        return Served::Done;
-    }
-    Served::Failed
+pub fn serve(rt: &HostRuntime, ticket: &[u8]) -> Result<(), Closed> {
+    let market = open_market::open(ticket)?;
+    talk(rt, market)?;
+    Ok(())
 }

@@ -1,23 +1,40 @@
-// The input as lines. What has been read of a line stands in a lent array.
+// What has been read of a line, without its end.
 
-// The most bytes of a line, without its end.
+// The most bytes of a line.
 pub(crate) const LONGEST: usize = 4096;
 
-// A line with one byte more. One that is too long stays so, whatever follows.
-fn put(line: &mut [u8; 4096], length: usize, byte: u8) -> usize {
-    if length < LONGEST {
-        line[length] = byte;
-        length + 1
-    } else {
-        LONGEST + 1
-    }
+// Its bytes, and how many there are. One that is too long stays so, whatever follows.
+#[derive(Clone, Copy)]
+pub(crate) struct Line {
+    bytes: [u8; LONGEST],
+    length: usize,
 }
 
-// A line with more bytes after its first `length`. Returns how long it is then.
-pub(crate) fn extend(line: &mut [u8; 4096], length: usize, more: &[u8]) -> usize {
-    let mut reached = length;
-    for k in 0..more.len() {
-        reached = put(line, reached, more[k]);
+impl Line {
+    pub(crate) fn empty() -> Line {
+        Line {
+            bytes: [0; LONGEST],
+            length: 0,
+        }
     }
-    reached
+
+    pub(crate) fn clear(&mut self) {
+        self.length = 0;
+    }
+
+    pub(crate) fn extend(&mut self, more: &[u8]) {
+        for &byte in more {
+            if self.length < LONGEST {
+                self.bytes[self.length] = byte;
+                self.length += 1;
+            } else {
+                self.length = LONGEST + 1;
+            }
+        }
+    }
+
+    // The whole line, unless it is too long.
+    pub(crate) fn text(&self) -> Option<&[u8]> {
+        self.bytes.get(..self.length)
+    }
 }

@@ -1,53 +1,80 @@
-// What the programs print of a ticket: its sheet, its numbers with words, everybody's free hours, or its refusal. All of it is put into a
-// text that is gathered before it is written. The functions here are proved safe, and held to the stored output of the programs above them.
+// What the programs print of a ticket: its sheet, its numbers with words, everybody's free hours, or its refusal. The functions here are
+// proved safe, and held to the stored output of the programs above them.
 #![tactic(auto)]
 
-mod rows;
-
-use files::{Stream, fill_in, flush, message_of, put};
+use checks::Refusal;
+use files::Text;
 use layouts::Layout;
-use reader::Reply;
-pub use rows::put_free_hours;
+use numbers::front;
+use std::fmt;
+use std::io::{Result, Write};
 
 // The number of a refusal, alone on its line for other programs to read.
-pub fn put_refused(page: &mut [u8], stream: Stream, why: u8) -> Stream {
-    fill_in(page, stream, b"REFUSED %\n", &[why as u64])
+#[derive(Clone, Copy)]
+pub struct Refused {
+    pub why: Refusal,
 }
 
-// Why a call was refused, on standard error.
-pub fn tell_refusal(rt: &HostRuntime, why: u8) {
-    let mut page = io::buffer();
-    let begun = message_of(rt, &mut page, b"");
-    let told = words::put_refusal(&mut page, begun, why);
-    let whole = put(&mut page, told, b"\n");
-    flush(&page, whole);
-}
-
-fn sheet_page() -> [u8; 8216] {
-    [0; sheets::PAGE]
+impl fmt::Display for Refused {
+    fn fmt<W: fmt::Write>(&self, f: &mut fmt::Formatter<W>) -> fmt::Result {
+        writeln!(f, "REFUSED {}", u8::from(self.why))
+    }
 }
 
 // The sheet of a ticket's file.
-pub fn put_sheet(page: &mut [u8], stream: Stream, ticket: &[u8]) -> Stream {
-    let mut text = sheet_page();
-    let reply = sheets::sheet(ticket, &mut text);
-    match reply {
-        Reply::Refused { why: _ } => stream,
-        Reply::Done { count } => put(page, stream, ascii::front(&text, count)),
+#[derive(Clone, Copy)]
+pub struct Sheet<'a> {
+    pub ticket: &'a [u8],
+}
+
+impl<'a> Text for Sheet<'a> {
+    fn write<W: Write>(&self, out: &mut W) -> Result<()> {
+        let mut text = [0u8; sheets::PAGE];
+        match sheets::sheet(self.ticket, &mut text) {
+            Ok(count) => out.write_all(ascii::front(&text, count)),
+            Err(_) => Ok(()),
+        }
     }
 }
 
 // Room for the text of every document.
-fn document_page() -> [u8; 32768] {
-    [0; 32768]
-}
+const DOCUMENT: usize = 32768;
 
 // A document's numbers with words.
-pub fn put_document(page: &mut [u8], stream: Stream, layout: Layout, list: &[u16]) -> Stream {
-    let mut text = document_page();
-    let reply = layouts::write(layout, list, &mut text);
-    match reply {
-        Reply::Refused { why: _ } => stream,
-        Reply::Done { count } => put(page, stream, ascii::front(&text, count)),
+#[derive(Clone, Copy)]
+pub struct Document<'a> {
+    pub layout: Layout,
+    pub list: &'a [u16],
+}
+
+impl<'a> Text for Document<'a> {
+    fn write<W: Write>(&self, out: &mut W) -> Result<()> {
+        let mut text = [0u8; DOCUMENT];
+        match layouts::write(self.layout, self.list, &mut text) {
+            Ok(count) => out.write_all(ascii::front(&text, count)),
+            Err(_) => Ok(()),
+        }
+    }
+}
+
+// Everybody's free hours, a line for the growers and one for the pilots. The rows begin with those whom the ticket tells of.
+#[derive(Clone, Copy)]
+pub struct FreeHours<'a> {
+    pub ticket: &'a [u16],
+    pub growers: [u16; 16],
+    pub pilots: [u16; 16],
+}
+
+impl<'a> fmt::Display for FreeHours<'a> {
+    fn fmt<W: fmt::Write>(&self, f: &mut fmt::Formatter<W>) -> fmt::Result {
+        f.write_str("growers")?;
+        for hours in front(&self.growers, tables::growers(self.ticket)) {
+            write!(f, " {hours}")?;
+        }
+        f.write_str("\npilots")?;
+        for hours in front(&self.pilots, tables::pilots(self.ticket)) {
+            write!(f, " {hours}")?;
+        }
+        f.write_str("\n")
     }
 }

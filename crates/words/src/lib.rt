@@ -10,3 +10,4 @@ mod spares;
 pub use faults::faults_of;
 pub use meaning::{Explained, Finding, Reason, is_of_ticket};
 pub use settlements::Settled;
+pub use spares::flown;

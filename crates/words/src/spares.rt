@@ -92,7 +92,7 @@ fn all_hours(with: Dealings) -> u32 {
 }
 
 // The hours that a party flies in all his deals.
-pub(crate) fn flown(settled: Settled, side: Side, who: usize) -> u32 {
+pub fn flown(settled: Settled, side: Side, who: usize) -> u32 {
     all_hours(dealings_of(settled, side, who))
 }
 
