@@ -19,8 +19,9 @@ pub(crate) fn account(rt: &HostRuntime, asked: Asked) -> Result<Status, Told> {
     let settlement = read_operand(rt, asked, 1, &mut bytes)?;
     match accounts::account(ticket, settlement) {
         Ok(account) => {
+            let amounts = account.list;
             let lines = AccountLines {
-                amounts: account.list,
+                amounts,
                 growers,
                 pilots,
             };

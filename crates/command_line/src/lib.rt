@@ -45,7 +45,7 @@ pub fn exchange_run(rt: &HostRuntime) -> Status {
     let word = files_in::word_at(rt, 1);
     let command = command_of(word.bytes());
     let status = match command {
-        Command::Unknown => commands::no_command(rt, word.bytes()),
+        Command::Unknown => Err(commands::no_command(rt, word.bytes())),
         Command::Help => commands::help(rt),
         Command::Version => commands::version(rt),
         _ => run_asked(rt, command, asked_for(rt, command)),

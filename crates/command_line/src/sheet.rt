@@ -57,8 +57,8 @@ fn print_table(
 ) -> Result<(), Told> {
     let mut text = [0u8; 65536];
     let names = match asked.names {
-        0 => b"".as_slice(),
-        argument => files::read(rt, word_at(rt, argument).bytes(), &mut text)?,
+        None => b"".as_slice(),
+        Some(argument) => files::read(rt, word_at(rt, argument).bytes(), &mut text)?,
     };
     match accounts::account(ticket, settlement) {
         Ok(account) => {

@@ -12,4 +12,4 @@ pub use arguments::argument;
 pub use asked::{Asked, Command, asked_for, command_of, fits, operand};
 pub use manual::{help, help_for, version};
 pub use nearest::no_command;
-pub use status::{DONE, FAILED, NOT_SOUND, of_verdict, worse, written};
+pub use status::Status;

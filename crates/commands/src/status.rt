@@ -1,31 +1,26 @@
 // The exit status, as that of grep and cmp.
-use verdicts::Values;
+use verdicts::Verdict;
 
-// Sound, or done.
-pub const DONE: i32 = 0;
-
-pub const NOT_SOUND: i32 = 1;
-
-// Refused, wrongly used, or failed by the system.
-pub const FAILED: i32 = 2;
-
-// The worse of two.
-pub fn worse(x: i32, y: i32) -> i32 {
-    if x < y { y } else { x }
+// Done, or sound; not sound; refused, wrongly used, or failed by the system. The later is the worse.
+#[derive(Clone, Copy, Debug, PartialEq, Eq, PartialOrd, Ord)]
+pub enum Status {
+    Done,
+    NotSound,
+    Failed,
 }
 
-// After a text that was written, or was not.
-pub fn written(done: bool) -> i32 {
-    if done { DONE } else { FAILED }
+impl From<Status> for u8 {
+    fn from(status: Status) -> u8 {
+        status as u8
+    }
 }
 
-// After a verdict.
-pub fn of_verdict(values: Values) -> i32 {
-    if values.refusal != 0 {
-        return FAILED;
+impl From<Verdict> for Status {
+    fn from(verdict: Verdict) -> Status {
+        match verdict {
+            Verdict::Refused { .. } => Status::Failed,
+            Verdict::Sound { .. } => Status::Done,
+            _ => Status::NotSound,
+        }
     }
-    if values.verdict == 1 {
-        return DONE;
-    }
-    NOT_SOUND
 }

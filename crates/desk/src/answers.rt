@@ -38,10 +38,12 @@ fn show_sheet(rt: &HostRuntime, market: Market) -> Result<(), Told> {
 // The market holds them, so that nothing is added up here.
 fn show_free_hours(rt: &HostRuntime, market: Market) -> Result<(), Told> {
     let ticket = market.ticket;
+    let growers = market.grower_free_hours;
+    let pilots = market.pilot_free_hours;
     let free = FreeHours {
         ticket: &ticket,
-        growers: market.grower_free_hours,
-        pilots: market.pilot_free_hours,
+        growers,
+        pilots,
     };
     print(rt, &free)
 }

@@ -3,14 +3,6 @@
 
 use std::process::ExitCode;
 
-// A status is below 256.
-fn code_of(status: i32) -> ExitCode {
-    match u8::try_from(status) {
-        Ok(code) => ExitCode::from(code),
-        Err(_) => ExitCode::FAILURE,
-    }
-}
-
 fn main(rt: HostRuntime) -> ExitCode {
-    code_of(command_line::exchange_run(&rt))
+    ExitCode::from(u8::from(command_line::exchange_run(&rt)))
 }

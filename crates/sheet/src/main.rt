@@ -2,23 +2,16 @@
 // nothing is printed.
 #![tactic(auto)]
 
-use reader::Reply;
-
 // One byte more than the longest ticket has, so that a longer input is refused as one that has bytes left.
 fn ticket_bytes() -> [u8; 2084] {
     [0; 2084]
 }
 
-fn page() -> [u8; 8216] {
-    [0; sheets::PAGE]
-}
-
 fn print(rt: &HostRuntime, ticket: &[u8]) {
-    let mut text = page();
-    let reply = sheets::sheet(ticket, &mut text);
-    if let Reply::Done { count } = reply {
+    let mut text = [0u8; sheets::PAGE];
+    if let Ok(count) = sheets::sheet(ticket, &mut text) {
         if let Err(error) = rt.write_all(ascii::front(&text, count)) {
-            files::tell(rt, b"sheet: standard output", error);
+            files::tell(rt, "sheet: standard output", error);
         }
     }
 }
@@ -27,6 +20,6 @@ fn main(rt: HostRuntime) {
     let mut ticket = ticket_bytes();
     match files::fill(&mut rt.stdin(), &mut ticket) {
         Ok(length) => print(&rt, ascii::front(&ticket, length)),
-        Err(error) => files::tell(&rt, b"sheet: standard input", error),
+        Err(error) => files::tell(&rt, "sheet: standard input", error),
     }
 }
