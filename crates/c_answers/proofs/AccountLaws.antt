@@ -1,8 +1,8 @@
 -- An account lent to C: it fits, and nothing is lost of it.
 -- Assumes nothing.
-use Rattle.std.specs.Prelude.{Result, Ok, Err}
+use Rattle.std.specs.Prelude.{Ok, Err}
 use Rattle.checks.specs.declared.refusals.Refusal.{Refusal}
-use mathlib.Core.Path.{◌≡◌, refl, ap, ◌∙◌}
+use mathlib.Core.Path.{◌≡◌, refl, sym, ap}
 use mathlib.Core.List.{List}
 use Prim.Native.Nat.{ℕ, ◌≤◌, ◌<◌}
 use native.Mathlib.Omega.{arith}
@@ -10,7 +10,6 @@ use borrow.Author.Tests.{le-leb, lt-leb}
 use lib.ListN.{length, take}
 use lib.Seq.{sets, length-take-le, take-append_seam}
 use Rattle.grid.proofs.Cases.{never}
-use Rattle.checks.specs.Refusals.{no_room}
 use Rattle.reader.specs.Walk.{Outcome}
 use Rattle.reader.specs.Answer.{reply, kept}
 use Rattle.tables.specs.View.{ticket_of, settlement_of}
@@ -23,40 +22,40 @@ use Rattle.marker.proofs.Marking.{marked_sound_exactly}
 use Rattle.marker.proofs.TicketLimits.{limits}
 use Rattle.market.specs.Market.{Ticket, Settlement}
 use Rattle.accounts.specs.declared.listing.Account.{Account}
-use Rattle.accounts.specs.Accounted.{account_numbers, account_in, outcome_by, account_outcome, accounted, ticket_numbers}
+use Rattle.accounts.specs.Accounted.{account_numbers, listing, account_in, outcome_by, account_outcome, accounted, ticket_numbers}
 use Rattle.accounts.specs.Accounted.{settlement_numbers}
 use Rattle.accounts.proofs.ListLaws.{account_length}
-use Rattle.c_answers.specs.Accounts.{outcome_in, outcome_of, Fitting}
+use Rattle.c_answers.specs.Accounts.{listed}
 
 -- The outcomes of lending.
+module _ (lent list : List ℕ) (count : ℕ) (long : length list ≡ 48) (few : count ≤ 48) where
+  taken : length (take count list) ≡ count
+  taken = length-take-le count list (omega arith)
 
-module _ (lent list : List ℕ) (r : Result ℕ Refusal) where
-  pub refused_lent : (why : ℕ) → r ≡ Err why →
-      (Err why ≡ reply (length lent) (outcome_in r list)) × (lent ≡ kept lent (outcome_in r list))
-  refused_lent why e = rw e (refl, refl)
+  pub too_short : length lent < count →
+      (Err Refusal.NoRoom ≡ reply (length lent) (Ok (take count list))) × (lent ≡ kept lent (Ok (take count list)))
+  too_short h = rw (taken, lt-leb count (length lent) h) (refl, refl)
 
-  module _ (count : ℕ) (e : r ≡ Ok count) (long : length list ≡ 48) (few : count ≤ 48) where
-    taken : length (take count list) ≡ count
-    taken = length-take-le count list (omega arith)
+  pub lent_whole : (after : List ℕ) → count ≤ length lent → after ≡ sets lent 0 (take count list) →
+      (Ok count ≡ reply (length lent) (Ok (take count list))) × (after ≡ kept lent (Ok (take count list)))
+  lent_whole after h w = rw (taken, le-leb count (length lent) h) (refl, w)
 
-    pub too_short : length lent < count →
-        (Err no_room ≡ reply (length lent) (outcome_in r list)) × (lent ≡ kept lent (outcome_in r list))
-    too_short h = rw (e, taken, lt-leb count (length lent) h) (refl, refl)
+-- What an account lists is the outcome that it was made of.
+listed_same : (o : Outcome) (account : Account) → Ok account ≡ account_in o → o ≡ listed account
+listed_same (Err w) account e = never cc
+listed_same (Ok xs) account e =
+    let same : account ≡ listing xs = cc in
+    rw same (ap (λ (ys : List ℕ). Ok ys) (sym (take-append_seam xs _)))
 
-    pub lent_whole : (after : List ℕ) → count ≤ length lent → after ≡ sets lent 0 (take count list) →
-        (Ok count ≡ reply (length lent) (outcome_in r list)) × (after ≡ kept lent (outcome_in r list))
-    lent_whole after h w = rw (e, taken, le-leb count (length lent) h) (refl, w)
+pub account_listed : (account : Account) (t s : List ℕ) → Ok account ≡ accounted t s → account_outcome t s ≡ listed account
+account_listed account t s e = listed_same (account_outcome t s) account e
 
-pub fits_count : (r : Result ℕ Refusal) (count : ℕ) → r ≡ Ok count → Fitting r → count ≤ 48
-fits_count r count e h = let l : Fitting (Ok count) = rw e at h in l
+refused_same : (o : Outcome) (w : Refusal) → Err w ≡ account_in o → o ≡ Err w
+refused_same (Err v) w e = cc
+refused_same (Ok xs) w e = never cc
 
--- An account is the outcome that it lists.
-outcome_same : (o : Outcome) → outcome_of (account_in o) ≡ o
-outcome_same (Err w) = refl
-outcome_same (Ok xs) = ap (λ (xs : List ℕ). Ok xs) (take-append_seam xs _)
-
-pub account_outcome_lem : (a : Account) (t s : List ℕ) → a ≡ accounted t s → outcome_of a ≡ account_outcome t s
-account_outcome_lem a t s e = ap outcome_of e ∙ outcome_same (account_outcome t s)
+pub account_refused : (w : Refusal) (t s : List ℕ) → Err w ≡ accounted t s → account_outcome t s ≡ Err w
+account_refused w t s e = refused_same (account_outcome t s) w e
 
 -- At most 16 growers and 16 pilots have at most 48 numbers.
 by_verdict : (t : Ticket) (x : Settlement) (v : Verdict) → (verdict_number v ≡ 1 → (t.growers ≤ 16) × (t.pilots ≤ 16)) → (xs : List ℕ) →
@@ -83,9 +82,10 @@ account_few t s xs e =
         let l = limits t f.numbers f.is_ticket in
         rw f.is_ticket (l.growers, l.pilots)
 
-fitting : (o : Outcome) → ((xs : List ℕ) → o ≡ Ok xs → length xs ≤ 48) → Fitting (account_in o).reply
-fitting (Err w) h = tt
-fitting (Ok xs) h = h xs refl
+fitting : (o : Outcome) → ((xs : List ℕ) → o ≡ Ok xs → length xs ≤ 48) → (account : Account) → Ok account ≡ account_in o →
+    account.count ≤ 48
+fitting (Err w) h account e = never cc
+fitting (Ok xs) h account e = let same : account ≡ listing xs = cc in rw same (h xs refl)
 
-pub account_fits : (t s : List ℕ) → Fitting (accounted t s).reply
-account_fits t s = fitting (account_outcome t s) (account_few t s)
+pub account_fits : (account : Account) (t s : List ℕ) → Ok account ≡ accounted t s → account.count ≤ 48
+account_fits account t s e = fitting (account_outcome t s) (account_few t s) account e

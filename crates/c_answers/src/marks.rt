@@ -41,9 +41,10 @@ fn values_number(values: Values) -> u64
     ensures { result ≡ mark_number values }
 {
     let deal = values.deal;
+    // `as`: a usize is no `From` of u64
     let parties = values.grower as u64 * GROWER + values.pilot as u64 * PILOT;
     let places = parties + deal_number(deal) * DEAL;
-    let answer = values.verdict as u64 + values.refusal as u64 * REFUSAL;
+    let answer = u64::from(values.verdict) + u64::from(values.refusal) * REFUSAL;
     answer + places + values.count as u64 * COUNT
 }
 
@@ -52,7 +53,7 @@ fn values_worth(values: Values) -> u64
     requires { values.worth < worth_end }
     ensures { result ≡ worth_number values }
 {
-    values.worth + values.refusal as u64 * REFUSAL
+    values.worth + u64::from(values.refusal) * REFUSAL
 }
 
 // The number of the verdict on a settlement of a ticket.

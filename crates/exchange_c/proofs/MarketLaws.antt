@@ -3,15 +3,13 @@
 use Rattle.std.specs.Prelude.{Result, Ok, Err}
 use Rattle.checks.specs.declared.refusals.Refusal.{Refusal}
 use Prim.Native.Nat.{ℕ, ◌≤◌, ◌<◌}
-use mathlib.Core.Bool.{Bool, true, false, cond}
 use mathlib.Core.Logic.{⊎_elim}
 use mathlib.Core.Path.{◌≡◌, refl, sym, subst, ap, ◌∙◌}
 use mathlib.Core.List.{List, []}
 use native.Mathlib.Omega.{arith}
-use lib.Dec.{eqb}
 use lib.ListN.{length, drop, replicate, length-take, length-replicate}
 use lib.Seq.{length-sets}
-use Rattle.grid.proofs.Cases.{lt_or_le}
+use Rattle.grid.proofs.Cases.{lt_or_le, never}
 use Rattle.reader.specs.Walk.{Outcome}
 use Rattle.documents.specs.Layout.{settlement}
 use Rattle.reader.specs.Answer.{unpacked, reply}
@@ -19,47 +17,47 @@ use Rattle.groups.specs.Groups.{bytes}
 use Rattle.documents.proofs.WalkLaws.{form_accepts}
 use Rattle.reader.proofs.Facts.{settlement-packed_read}
 use Rattle.tables.specs.View.{growers_of, pilots_of, settlement_front, settlement_length}
-use Rattle.open_market.specs.declared.held.Answer.{Answer}
-use Rattle.open_market.specs.Markets.{OpenedAs}
-use Rattle.market_lists.specs.Lent.{market_length, numbers_in, market_in, OpenedIn, CalledIn, file_of, WrittenFrom}
+use Rattle.open_market.specs.declared.held.Market.{Market}
+use Rattle.checks.specs.Refusals.{Checked, giving}
+use Rattle.open_market.specs.Markets.{Opened, OpenedAs}
+use Rattle.market_lists.specs.Lent.{market_length, numbers_in, market_in, outcome_of, OpenedIn, CalledIn, file_of, WrittenFrom}
 use Rattle.market_lists.proofs.LentLaws.{Lengths, numbers_long}
 use Rattle.exchange_c.specs.Replies.{reply_of, Small, NumberOf}
 use Rattle.exchange_c.proofs.ReplyLaws.{reply_small, number_tells, gives_short}
 
 -- A market that was opened has as many numbers as every market, whatever the ticket.
-opened_lengths : (o : Outcome) (answer : Answer) → OpenedAs o answer → Lengths answer.market
-opened_lengths (Err w) answer s = subst Lengths (sym s.1) (record {
-  ticket_long = length-replicate {A = ℕ} 1315 0;
-  settlement_long = length-replicate {A = ℕ} 771 0;
-  growers_long = refl;
-  pilots_long = refl;
-})
-opened_lengths (Ok xs) answer s = record {
-  ticket_long = ap length s.ticket_held ∙ length-sets (replicate {A = ℕ} 1315 0) 0 xs ∙ length-replicate {A = ℕ} 1315 0;
-  settlement_long = s.market.settled.long;
-  growers_long = s.market.free.growers_in.row.long;
-  pilots_long = s.market.free.pilots_in.row.long;
-}
+pub opened_lengths : (o : Outcome) (market : Market) → OpenedAs o (Ok market) → Lengths market
+opened_lengths (Err w) market s = never cc
+opened_lengths (Ok xs) market s =
+    let f = s.1 in
+    let same : s.0 ≡ market = cc in
+    subst Lengths same (record {
+      ticket_long = ap length s.2.ticket_held ∙ length-sets (replicate {A = ℕ} 1315 0) 0 xs ∙ length-replicate {A = ℕ} 1315 0;
+      settlement_long = s.2.market.settled.long;
+      growers_long = s.2.market.free.growers_in.row.long;
+      pilots_long = s.2.market.free.pilots_in.row.long;
+    })
 
 pub open_small : (file lent after : List ℕ) (r : Result ℕ Refusal) → OpenedIn file lent after r → Small r
-open_small file lent after r o =
-    rw o.tells.reply (go (eqb o.answer.refusal 0) o.answer.refusal (numbers_in o.answer.market)
-    (numbers_long _ (opened_lengths (unpacked file) o.answer o.opened)))
+open_small file lent after r o = rw o.tells.reply (go o.answer o.opened)
   where
-    go : (b : Bool) (w : ℕ) (xs : List ℕ) → length xs ≡ market_length → Small (reply (length lent) (cond b (Ok xs) (Err w)))
-    go true w xs long = reply_small (length lent) (Ok xs) (λ ys e. let d : xs ≡ ys = cc in omega (arith, long, ap length d))
-    go false w xs long = tt
+    go : (answer : Result Market Refusal) → Opened file answer → Small (reply (length lent) (outcome_of answer))
+    go (Ok market) opened =
+        reply_small (length lent) (Ok (numbers_in market))
+        (λ ys e. let d : numbers_in market ≡ ys = cc in
+        omega (arith, numbers_long market (opened_lengths (unpacked file) market opened), ap length d))
+    go (Err w) opened = tt
 
 -- Calls answer the length of a market, or a refusal.
 pub call_small : (calls lent after : List ℕ) (r : Result ℕ Refusal) → CalledIn calls lent after r → Small r
 call_small calls lent after r c = ⊎_elim
     (λ h. rw (c.short h).0.reply tt)
-    (λ h. let d = c.done h in rw d.tells.reply (go (eqb d.answer.refusal 0) d.answer.refusal))
+    (λ h. let d = c.done h in rw d.tells.reply (go d.refusal))
     (lt_or_le (length lent) market_length)
   where
-    go : (b : Bool) (w : ℕ) → Small (cond b (Ok market_length) (Err w))
-    go true w = omega arith
-    go false w = tt
+    go : (refusal : Checked) → Small (giving refusal market_length)
+    go (Ok _) = omega arith
+    go (Err w) = tt
 
 -- The numbers of a settlement are at most 771, of two bytes each.
 file_short : (xs s : List ℕ) → length xs ≤ 771 → file_of xs ≡ Ok s → length s < 65536

@@ -12,11 +12,11 @@ use borrow.Author.Tests.{lt-ltb, le-ltb}
 use mir.Syntax.{w32}
 use mir.Val.{Fits}
 use lib.Dec.{leb}
-use lib.ListN.{length, take}
+use lib.ListN.{length, take, get_or}
 use lib.Seq.{length-take-le}
 use Rattle.grid.proofs.Cases.{never, lt_or_le}
 use Rattle.numbers.proofs.Products.{prod_small}
-use Rattle.checks.specs.Refusals.{no_room}
+use Rattle.checks.specs.Refusals.{number_of}
 use Rattle.groups.specs.Groups.{Read, Number, Ends, TooLong, Padded, raise, read_from, groups, bytes, pack}
 use Rattle.reader.specs.Walk.{Outcome, read_head, form}
 use Rattle.documents.specs.Walk.{Gives}
@@ -30,23 +30,47 @@ use Rattle.tables.specs.View.{growers_of, pilots_of}
 use Rattle.settler.specs.Settled.{SettledIn, Answers, SettledAs, Settled, room_for}
 use Rattle.sheets.specs.Sheeted.{room_for_sheet, Sheeted}
 use Rattle.sheets.proofs.PrintLaws.{sheet_short, room_in_page}
-use Rattle.exchange_c.specs.Replies.{reply_number, reply_of, Small, NumberOf}
+use Rattle.exchange_c.specs.Replies.{reply_number, refusals, reply_of, Small, NumberOf}
 
 -- A small count fits the number.
 pub count_fits : (r : Result ℕ Refusal) (count : ℕ) → r ≡ Ok count → Small r → Fits w32 count
 count_fits r count e h = let l : Small (Ok count) = rw e at h in record { fits = omega arith }
 
+-- A refusal is the one that its number says.
+refusal_told : (why : Refusal) → get_or refusals (65536 + number_of why - 65537) Refusal.BadWindow ≡ why
+refusal_told Refusal.Ends = refl
+refusal_told Refusal.TooLong = refl
+refusal_told Refusal.Padded = refl
+refusal_told Refusal.WrongKind = refl
+refusal_told Refusal.PartiesOutOfRange = refl
+refusal_told Refusal.HoursAboveLimit = refl
+refusal_told Refusal.AboveLimit = refl
+refusal_told Refusal.AmountWithoutCap = refl
+refusal_told Refusal.NumbersLeft = refl
+refusal_told Refusal.NoRoom = refl
+refusal_told Refusal.SettlementEnds = refl
+refusal_told Refusal.SettlementTooLong = refl
+refusal_told Refusal.SettlementPadded = refl
+refusal_told Refusal.SettlementWrongKind = refl
+refusal_told Refusal.OtherParties = refl
+refusal_told Refusal.SettlementNumbersLeft = refl
+refusal_told Refusal.NotSound = refl
+refusal_told Refusal.CapWithoutHours = refl
+refusal_told Refusal.NoParty = refl
+refusal_told Refusal.AgainstLimits = refl
+refusal_told Refusal.NotWindows = refl
+refusal_told Refusal.BadWindow = refl
+
 -- A small reply is told by its number.
 pub number_tells : (r : Result ℕ Refusal) → Small r → reply_of (reply_number r) ≡ r
-number_tells (Err why) h =
-    let e : 65536 + why - 65536 ≡ why = omega arith in rw (le-ltb (65536 + why) 65536 (omega arith), e)
+number_tells (Err why) h = rw (le-ltb (65536 + number_of why) 65536 (omega arith), refusal_told why)
 number_tells (Ok count) h = rw (lt-ltb count 65536 h)
 
 pub reply_small : (room : ℕ) (o : Outcome) → ((xs : List ℕ) → o ≡ Ok xs → length xs < 65536) → Small (reply room o)
 reply_small room (Err w) h = tt
 reply_small room (Ok xs) h = go (leb (length xs) room)
   where
-    go : (b : Bool) → Small (cond b (Ok (length xs)) (Err no_room))
+    go : (b : Bool) → Small (cond b (Ok (length xs)) (Err Refusal.NoRoom))
     go true = h xs refl
     go false = tt
 

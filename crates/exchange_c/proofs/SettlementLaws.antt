@@ -10,7 +10,7 @@ use borrow.Author.Tests.{leb-true}
 use lib.Dec.{leb}
 use lib.ListN.{length}
 use Rattle.grid.proofs.EveryLaws.{both_hold}
-use Rattle.checks.specs.Refusals.{settlement_refusals}
+use Rattle.checks.specs.declared.refusals.Refusal.{Refusal}
 use Rattle.reader.specs.Walk.{Outcome}
 use Rattle.reader.specs.Answer.{settlement_read, settlement_packed, reply}
 use Rattle.reader.proofs.Facts.{settlement_shape, settlement_few, settlement-packed_read}
@@ -23,7 +23,7 @@ of_ticket_small : (room n m : ℕ) (o : Outcome) → (n ≤ 16 → m ≤ 16 → 
     Small (reply room (of_ticket n m o))
 of_ticket_small room n m o h = go (in_ticket n m) refl
   where
-    go : (b : Bool) → in_ticket n m ≡ b → Small (reply room (cond b o (Err settlement_refusals.parties)))
+    go : (b : Bool) → in_ticket n m ≡ b → Small (reply room (cond b o (Err Refusal.OtherParties)))
     go true e =
         let both = both_hold (leb n 16) (leb m 16) e in
         reply_small room o (h (leb-true n 16 both.0) (leb-true m 16 both.1))

@@ -2,16 +2,26 @@
 -- Assumes nothing.
 use Rattle.std.specs.Prelude.{Result, Ok, Err}
 use Rattle.checks.specs.declared.refusals.Refusal.{Refusal}
-use Rattle.std.specs.Prelude.{ℕ, ◌+◌, ◌-◌, ◌<◌, ◌≡◌, cond, ltb}
+use Rattle.std.specs.Prelude.{ℕ, ◌+◌, ◌-◌, ◌<◌, ◌≡◌, List, [], ◌∷◌, cond, ltb, get_or}
+use Rattle.checks.specs.Refusals.{number_of}
 
 -- A count or a length as it is, refusal k as 65536 + k.
 abbrev pub reply_number : Result ℕ Refusal → ℕ
-reply_number (Err why) = 65536 + why
+reply_number (Err why) = 65536 + number_of why
 reply_number (Ok count) = count
+
+-- The refusals in the order of their numbers, which begin with 1.
+abbrev pub refusals : List Refusal
+refusals =
+    Refusal.Ends ∷ Refusal.TooLong ∷ Refusal.Padded ∷ Refusal.WrongKind ∷ Refusal.PartiesOutOfRange ∷ Refusal.HoursAboveLimit
+    ∷ Refusal.AboveLimit ∷ Refusal.AmountWithoutCap ∷ Refusal.NumbersLeft ∷ Refusal.NoRoom ∷ Refusal.SettlementEnds
+    ∷ Refusal.SettlementTooLong ∷ Refusal.SettlementPadded ∷ Refusal.SettlementWrongKind ∷ Refusal.OtherParties
+    ∷ Refusal.SettlementNumbersLeft ∷ Refusal.NotSound ∷ Refusal.CapWithoutHours ∷ Refusal.NoParty ∷ Refusal.AgainstLimits
+    ∷ Refusal.NotWindows ∷ Refusal.BadWindow ∷ []
 
 -- How C reads it.
 abbrev pub reply_of : ℕ → Result ℕ Refusal
-reply_of number = cond (ltb number 65536) (Ok number) (Err (number - 65536))
+reply_of number = cond (ltb number 65536) (Ok number) (Err (get_or refusals (number - 65537) Refusal.BadWindow))
 
 -- A count that cannot be taken for a refusal.
 abbrev pub Small : Result ℕ Refusal → Type 0

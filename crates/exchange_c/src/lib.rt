@@ -6,8 +6,7 @@ mod meanings; // meanings.rt: what C asks the text of
 mod replies; // replies.rt: the number of a reply
 mod settlements; // settlements.rt: settlements by growers and pilots
 
-ghost use Rattle.std.specs.Prelude.{◌≡◌, length};
-ghost use Rattle.reader.specs.Walk.{Numbers};
+ghost use Rattle.std.specs.Prelude.{◌≡◌, length, Ok};
 ghost use Rattle.reader.specs.Answer.{unpacked, packed, settlement_read, settlement_packed, reply, kept};
 ghost use Rattle.marker.specs.Marked.{marked_values};
 ghost use Rattle.settler.specs.Settled.{Settled};
@@ -155,8 +154,8 @@ pub extern "C" fn exchange_market_settlement(market: &[u16], settlement: &mut [u
 // `texts::telling`: the length of the words of a refusal (`what` is 0) or of a verdict, or the refusal of a buffer that is too short.
 #[unsafe(no_mangle)]
 pub extern "C" fn exchange_text(what: u32, number: u32, text: &mut [u8]) -> u32
-    ensures value { result ≡ reply_number (reply (length text.old) (Numbers (telling_of (meaning_of what) number))) }
-    ensures text_after { text.new ≡ kept text.old (Numbers (telling_of (meaning_of what) number)) }
+    ensures value { result ≡ reply_number (reply (length text.old) (Ok (telling_of (meaning_of what) number))) }
+    ensures text_after { text.new ≡ kept text.old (Ok (telling_of (meaning_of what) number)) }
 {
     reply_number(texts::telling(meaning_of(what), byte_of(number), text))
 }

@@ -2,17 +2,18 @@
 ghost use Rattle.std.specs.Prelude.{◌≡◌};
 ghost use Rattle.exchange_c.specs.Replies.{reply_number, Small};
 
-use reader::Reply;
+use checks::Refusal;
 
 // Refusal k is this and k; a count is below it.
 const REFUSED: u32 = 65536;
 
-pub(crate) fn reply_number(reply: Reply) -> u32
+pub(crate) fn reply_number(reply: Result<usize, Refusal>) -> u32
     requires { Small reply }
     ensures { result ≡ reply_number reply }
 {
     match reply {
-        Reply::Refused { why } => REFUSED + why as u32,
-        Reply::Done { count } => count as u32,
+        Err(why) => REFUSED + u32::from(u8::from(why)),
+        // `as`: a small count fits, which the contract asks for
+        Ok(count) => count as u32,
     }
 }

@@ -8,18 +8,17 @@ use mathlib.Core.List.{List, ◌++◌, append-nil}
 use native.Mathlib.Omega.{arith}
 use mathlib.Core.Bool.{true, false}
 use lib.Dec.{leb}
-use borrow.Author.Tests.{eq-eqb, ne_eqb, le-leb, lt-leb}
+use borrow.Author.Tests.{le-leb, lt-leb}
 use lib.ListN.{length, length-append, drop, drop_of_length-le, length-drop}
 use lib.Seq.{sets, length-take-le}
 use Rattle.ascii.proofs.PageWriting.{sets_append}
-use Rattle.checks.specs.Refusals.{no_room}
+use Rattle.checks.specs.Refusals.{Checked}
 use Rattle.reader.specs.Values.{Replied}
 use Rattle.reader.specs.Answer.{settlement_packed, Tells, kept}
 use Rattle.tables.specs.View.{growers_of, pilots_of, settlement_front}
 use Rattle.reader.proofs.Facts.{written_front}
 use Rattle.reader.proofs.Telling.{refuses, counts}
 use Rattle.open_market.specs.declared.held.Market.{Market}
-use Rattle.open_market.specs.declared.held.Answer.{Answer}
 use Rattle.open_market.specs.Markets.{Opened, Replayed}
 use Rattle.market_lists.specs.Lent.{market_length, numbers_in, part, market_in, outcome_of, OpenedIn, call_reply, call_on_paper, CalledIn, file_of}
 use Rattle.market_lists.specs.Lent.{WrittenFrom}
@@ -64,55 +63,50 @@ pub next_written : (list mid after xs ys : List ℕ) (from at : ℕ) → at ≡ 
 next_written list mid after xs ys from at e f g = g ∙ rw (f, e) (sets_append list from xs ys)
 
 -- What opening answers and leaves.
-module _ (file lent : List ℕ) (answer : Answer) (o : Opened file answer) where
-  pub open_refused : 0 < answer.refusal → OpenedIn file lent lent (Err answer.refusal)
-  open_refused h =
-      let f : outcome_of answer ≡ Err answer.refusal = rw (ne_eqb answer.refusal 0 (λ e. omega (arith, e))) in
-      record { answer = answer; opened = o; tells = rw f (refuses _ _ refl); left = rw f }
+pub open_refused : (file lent : List ℕ) (w : Refusal) → Opened file (Err w) → OpenedIn file lent lent (Err w)
+open_refused file lent w o = record { answer = Err w; opened = o; tells = refuses _ _ refl; left = refl }
 
-  module _ (accepted : answer.refusal ≡ 0) (long : length (numbers_in answer.market) ≡ market_length) where
-    numbers : outcome_of answer ≡ Ok (numbers_in answer.market)
-    numbers = rw (eq-eqb answer.refusal 0 accepted)
+module _ (file lent : List ℕ) (market : Market) (o : Opened file (Ok market)) (long : length (numbers_in market) ≡ market_length) where
+  pub open_short : length lent < market_length → OpenedIn file lent lent (Err Refusal.NoRoom)
+  open_short h =
+      let few : leb (length (numbers_in market)) (length lent) ≡ false =
+      lt-leb (length (numbers_in market)) (length lent) (omega (arith, long)) in
+      record { answer = Ok market; opened = o; tells = rw few (refuses _ _ refl); left = rw few }
 
-    pub open_short : length lent < market_length → OpenedIn file lent lent (Err no_room)
-    open_short h =
-        let few : leb (length (numbers_in answer.market)) (length lent) ≡ false =
-        lt-leb (length (numbers_in answer.market)) (length lent) (omega (arith, long)) in
-        record { answer = answer; opened = o; tells = rw (numbers, few) (refuses _ _ refl); left = rw (numbers, few) }
-
-    pub open_done : (after : List ℕ) → market_length ≤ length lent → after ≡ sets lent 0 (numbers_in answer.market) →
-        OpenedIn file lent after (Ok market_length)
-    open_done after h e =
-        let room : leb (length (numbers_in answer.market)) (length lent) ≡ true =
-        le-leb (length (numbers_in answer.market)) (length lent) (omega (arith, long)) in
-        record { answer = answer; opened = o; tells = rw (numbers, room, long) (counts _ _ refl); left = rw (numbers, room) e }
+  pub open_done : (after : List ℕ) → market_length ≤ length lent → after ≡ sets lent 0 (numbers_in market) →
+      OpenedIn file lent after (Ok market_length)
+  open_done after h e =
+      let room : leb (length (numbers_in market)) (length lent) ≡ true =
+      le-leb (length (numbers_in market)) (length lent) (omega (arith, long)) in
+      record { answer = Ok market; opened = o; tells = rw (room, long) (counts _ _ refl); left = rw (room, long) e }
 
 -- What calls answer and leave.
-pub no_market : (calls lent : List ℕ) → length lent < market_length → CalledIn calls lent lent (Err no_room)
-no_market calls lent h = record { short = λ _. (refuses _ no_room refl, refl); done = λ room. absurd (omega arith) }
+pub no_market : (calls lent : List ℕ) → length lent < market_length → CalledIn calls lent lent (Err Refusal.NoRoom)
+no_market calls lent h = record { short = λ _. (refuses _ Refusal.NoRoom refl, refl); done = λ room. absurd (omega arith) }
 
-module _ (calls lent after : List ℕ) (answer : Answer) (room : market_length ≤ length lent) (m : Market) (held : m ≡ market_in lent)
-    (d : Replayed m calls answer) (e : after ≡ sets lent 0 (numbers_in answer.market)) where
-  calls_done : (r : Result ℕ Refusal) → Replied r (call_reply answer.refusal) (call_on_paper answer.refusal) → CalledIn calls lent after r
+module _ (calls lent after : List ℕ) (refusal : Checked) (last : Market) (room : market_length ≤ length lent) (m : Market)
+    (held : m ≡ market_in lent) (d : Replayed m calls refusal last) (e : after ≡ sets lent 0 (numbers_in last)) where
+  calls_done : (r : Result ℕ Refusal) → Replied r (call_reply refusal) (call_on_paper refusal) → CalledIn calls lent after r
   calls_done r t = record {
     short = λ h. absurd (omega arith);
     done = λ _. record {
-      answer = answer;
-      replayed = subst (λ (n : Market). Replayed n calls answer) held d;
+      refusal = refusal;
+      last = last;
+      replayed = subst (λ (n : Market). Replayed n calls refusal last) held d;
       tells = t;
       left = e;
     };
   }
 
-  pub some_refused : 0 < answer.refusal → CalledIn calls lent after (Err answer.refusal)
-  some_refused h = calls_done _ (rw (ne_eqb answer.refusal 0 (λ z. omega (arith, z))) (refuses _ _ refl))
+  pub some_refused : (w : Refusal) (r : Result ℕ Refusal) → refusal ≡ Err w → r ≡ Err w → CalledIn calls lent after r
+  some_refused w r f g = calls_done r (rw f (refuses _ _ g))
 
-  pub all_accepted : answer.refusal ≡ 0 → CalledIn calls lent after (Ok market_length)
-  all_accepted z = calls_done _ (rw (eq-eqb answer.refusal 0 z) (counts _ _ refl))
+  pub all_accepted : refusal ≡ Ok tt → CalledIn calls lent after (Ok market_length)
+  all_accepted f = calls_done _ (rw f (counts _ _ refl))
 
 -- What writing the settlement answers and leaves.
-pub nothing_held : (list lent : List ℕ) → length list < market_length → WrittenFrom list lent lent (Err no_room)
-nothing_held list lent h = record { short = λ _. (refuses _ no_room refl, refl); written = λ room. absurd (omega arith) }
+pub nothing_held : (list lent : List ℕ) → length list < market_length → WrittenFrom list lent lent (Err Refusal.NoRoom)
+nothing_held list lent h = record { short = λ _. (refuses _ Refusal.NoRoom refl, refl); written = λ room. absurd (omega arith) }
 
 pub settlement_written : (list lent after front : List ℕ) (n m : ℕ) (r : Result ℕ Refusal) → market_length ≤ length list →
     let settlement = (market_in list).settlement in

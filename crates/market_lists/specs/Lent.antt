@@ -3,15 +3,14 @@
 -- Assumes nothing.
 use Rattle.std.specs.Prelude.{Result, Ok, Err}
 use Rattle.checks.specs.declared.refusals.Refusal.{Refusal}
-use Rattle.std.specs.Prelude.{ℕ, ◌≤◌, ◌<◌, cond, ◌≡◌, List, ◌++◌, eqb, length, take, drop}
+use Rattle.std.specs.Prelude.{ℕ, ◌≤◌, ◌<◌, ◌≡◌, List, ◌++◌, length, take, drop}
 use Rattle.std.proofs.lemmas.List.Edits.{sets}
-use Rattle.checks.specs.Refusals.{no_room}
+use Rattle.checks.specs.Refusals.{Checked, number_of, giving}
 use Rattle.reader.specs.Walk.{Outcome}
 use Rattle.reader.specs.Values.{Values, refused_with, done_with, Replied, Refuses}
 use Rattle.reader.specs.Answer.{settlement_packed, Tells, kept}
 use Rattle.tables.specs.View.{growers_of, pilots_of, settlement_front}
 use Rattle.open_market.specs.declared.held.Market.{Market}
-use Rattle.open_market.specs.declared.held.Answer.{Answer}
 use Rattle.open_market.specs.Markets.{Opened, Replayed}
 
 abbrev pub market_length : ℕ
@@ -33,34 +32,37 @@ market_in list = record {
 }
 
 -- What opening comes to: the refusal, or the numbers of the market.
-abbrev pub outcome_of : Answer → Outcome
-outcome_of answer = cond (eqb answer.refusal 0) (Ok (numbers_in answer.market)) (Err answer.refusal)
+abbrev pub outcome_of : Result Market Refusal → Outcome
+outcome_of (Ok market) = Ok (numbers_in market)
+outcome_of (Err w) = Err w
 
--- The market of some answer that opening may give: told, and left at the front of the list if that has room. Which settlement it holds is
+-- Some answer that opening may give: told, and its market left at the front of the list if that has room. Which settlement it holds is
 -- free.
 pub record OpenedIn (file lent after : List ℕ) (r : Result ℕ Refusal) : Type 0 where
-  pub answer : Answer
+  pub answer : Result Market Refusal
   pub opened : Opened file answer
   pub tells : Tells r (length lent) (outcome_of answer)
   pub left : after ≡ kept lent (outcome_of answer)
 
 -- The reply to calls that came to a refusal, or to none.
-abbrev pub call_reply : ℕ → Result ℕ Refusal
-call_reply refusal = cond (eqb refusal 0) (Ok market_length) (Err refusal)
+abbrev pub call_reply : Checked → Result ℕ Refusal
+call_reply refusal = giving refusal market_length
 
-abbrev pub call_on_paper : ℕ → Values
-call_on_paper refusal = cond (eqb refusal 0) (done_with market_length) (refused_with refusal)
+abbrev pub call_on_paper : Checked → Values
+call_on_paper (Ok _) = done_with market_length
+call_on_paper (Err w) = refused_with (number_of w)
 
 -- The calls were done on the market at the front of the list, and the market after them stands there.
 pub record CallsDone (calls lent after : List ℕ) (r : Result ℕ Refusal) : Type 0 where
-  pub answer : Answer
-  pub replayed : Replayed (market_in lent) calls answer
-  pub tells : Replied r (call_reply answer.refusal) (call_on_paper answer.refusal)
-  pub left : after ≡ sets lent 0 (numbers_in answer.market)
+  pub refusal : Checked
+  pub last : Market
+  pub replayed : Replayed (market_in lent) calls refusal last
+  pub tells : Replied r (call_reply refusal) (call_on_paper refusal)
+  pub left : after ≡ sets lent 0 (numbers_in last)
 
 -- A list that is too short holds no market, and is left as it was.
 pub record CalledIn (calls lent after : List ℕ) (r : Result ℕ Refusal) : Type 0 where
-  pub short : length lent < market_length → Refuses r no_room × (after ≡ lent)
+  pub short : length lent < market_length → Refuses r Refusal.NoRoom × (after ≡ lent)
   pub done : market_length ≤ length lent → CallsDone calls lent after r
 
 -- The file of the settlement that a list's market holds, by the growers and pilots that the settlement names. Of a list that is too short
@@ -69,6 +71,6 @@ abbrev pub file_of : List ℕ → Outcome
 file_of settlement = settlement_packed (growers_of settlement) (pilots_of settlement) (settlement_front settlement)
 
 pub record WrittenFrom (list lent after : List ℕ) (r : Result ℕ Refusal) : Type 0 where
-  pub short : length list < market_length → Refuses r no_room × (after ≡ lent)
+  pub short : length list < market_length → Refuses r Refusal.NoRoom × (after ≡ lent)
   pub written : market_length ≤ length list → Tells r (length lent) (file_of (market_in list).settlement) ×
       (after ≡ kept lent (file_of (market_in list).settlement))

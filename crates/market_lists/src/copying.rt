@@ -20,9 +20,7 @@ fn copy_at(list: &mut [u16], at: usize, numbers: &[u16])
     ensures list_after { list.new ≡ sets list.old at numbers.now }
     ensures list_len_unchanged { length list.new ≡ length list.old }
 {
-    for k in 0..numbers.len() {
-        list[at + k] = numbers[k];
-    }
+    list[at..at + numbers.len()].copy_from_slice(numbers);
 }
 
 // The sixteen numbers of a list from a place on.
