@@ -9,7 +9,6 @@ mod limits;
 pub use chances::{better_deal, free_chance, greater_chance};
 pub use late::late_here;
 pub use limits::{outside, pilot_slack, tariff_slack, worth_here};
-use market::Deal;
 
 // Above 18 times every amount: no price rises higher.
 pub const TOP: u32 = 1179631;
@@ -34,11 +33,4 @@ pub struct Agreed {
     pub by_tariff: u16,
     pub old_free: u16,
     pub new_free: u16,
-}
-
-// Late hours of a pilot with one grower: in which of their deals, and how many.
-#[derive(Clone, Copy)]
-pub enum LateHours {
-    NoHours,
-    Hours(Deal, u16),
 }
