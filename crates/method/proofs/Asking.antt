@@ -7,24 +7,21 @@ use native.Mathlib.Decide.{dec_lt}
 use native.Mathlib.Omega.{arith}
 use borrow.Author.Tests.{lt-ltb, le-ltb}
 use lib.ListN.{get_or}
+use Rattle.std.specs.Prelude.{Option, None, Some}
 use Rattle.grid.proofs.Cases.{by_index}
 use Rattle.market.specs.declared.Deal.{Deal}
 use Rattle.market.specs.declared.Deal.TheVariants.{Tariff, Free}
 use Rattle.market.specs.Market.{Ticket, cap, used_by_grower}
 use Rattle.market.specs.Method.{Held, hours_of, offer, Done}
-use Rattle.method.specs.declared.Best.{Best}
-use Rattle.method.specs.declared.Best.TheVariants.{Nothing, Offer}
-use Rattle.method.specs.declared.Request.{Request}
-use Rattle.method.specs.declared.Request.TheVariants.{Content, Hours}
 use Rattle.offers.specs.declared.Terms.{Terms}
 use Rattle.offers.specs.declared.Agreed.{Agreed}
 use Rattle.method.specs.View.{line, ticket, alone, held_in, held_by, agreed_in, terms_in, hours_in, cap_of}
 use Rattle.method.specs.Choice.{chance, Greatest, Wanted, AsksNothing, Room, Asks}
 
 -- the best deal that is there for grower i with a free hour
-abbrev pub Asked : Ticket → (ℕ → ℕ) → Held → ℕ → Best → Type 0
-Asked t price held i Nothing = AsksNothing t price held i
-Asked t price held i (Offer j d) = Wanted t price held d i j
+abbrev pub Asked : Ticket → (ℕ → ℕ) → Held → ℕ → Option (ℕ × Deal) → Type 0
+Asked t price held i None = AsksNothing t price held i
+Asked t price held i (Some (j, d)) = Wanted t price held d i j
 
 module _ (t : Ticket) (price : ℕ → ℕ) (held : Held) (i : ℕ) where
   chance_room : (d : Deal) (j : ℕ) → 0 < chance t price held i d j → hours_of held d i j < cap t d i j
@@ -40,10 +37,10 @@ module _ (t : Ticket) (price : ℕ → ℕ) (held : Held) (i : ℕ) where
   chance_is_offer d j h = rw (lt-ltb (hours_of held d i j) (cap t d i j) h)
 
   -- a grower with a free hour asks for his greatest chance
-  asks_for_greatest : (best : Best) → i < t.growers → used_by_grower t (hours_of held) i < t.grower_hours i →
+  asks_for_greatest : (best : Option (ℕ × Deal)) → i < t.growers → used_by_grower t (hours_of held) i < t.grower_hours i →
       Greatest (chance t price held i) t.pilots best → Asked t price held i best
-  asks_for_greatest Nothing hi free top = λ d j hj _ room. omega (arith, chance_is_offer d j room, top d j hj)
-  asks_for_greatest (Offer j d) hi free top =
+  asks_for_greatest None hi free top = λ d j hj _ room. omega (arith, chance_is_offer d j room, top d j hj)
+  asks_for_greatest (Some (j, d)) hi free top =
       let room = chance_room d j top.1 in
       record {
         grower = hi;
@@ -61,16 +58,16 @@ module _ (m hours : ℕ) (terms : List Terms) (agreed : List Agreed) (prices : L
   same-chance Tariff j = refl
   same-chance Free j = refl
 
-  same_greatest : (best : Best) → Greatest (chance (alone m 0 terms) (line prices) (held_by agreed) 0) m best →
+  same_greatest : (best : Option (ℕ × Deal)) → Greatest (chance (alone m 0 terms) (line prices) (held_by agreed) 0) m best →
       Greatest (chance (alone m hours terms) (line prices) (held_by agreed) 0) m best
-  same_greatest Nothing g = λ d j hj. omega (arith, same-chance d j, g d j hj)
-  same_greatest (Offer j d) g = (
+  same_greatest None g = λ d j hj. omega (arith, same-chance d j, g d j hj)
+  same_greatest (Some (j, d)) g = (
     g.0,
     omega (arith, same-chance d j, g.1),
     λ e l hl. omega (arith, same-chance d j, same-chance e l, g.2 e l hl),
   )
 
-  pub asks_for_best : (best : Best) → used_by_grower (alone m hours terms) (hours_of (held_by agreed)) 0 < hours →
+  pub asks_for_best : (best : Option (ℕ × Deal)) → used_by_grower (alone m hours terms) (hours_of (held_by agreed)) 0 < hours →
       Greatest (chance (alone m 0 terms) (line prices) (held_by agreed) 0) m best →
       Asked (alone m hours terms) (line prices) (held_by agreed) 0 best
   asks_for_best best free g =
@@ -166,6 +163,6 @@ module _ (n m i : ℕ) (grower_hours pilot_hours : List ℕ) (terms : List (List
   room_in Tariff j x r = record { some = r.some; room = r.room; free = r.free }
   room_in Free j x r = record { some = r.some; room = r.room; free = r.free }
 
-  pub asks_in : (asked : Request) → Asks row (line prices) held_row 0 asked → Asks whole (line prices) held i asked
-  asks_in Content a = nothing_in a
-  asks_in (Hours j d x) a = (wanted_in d j a.0, room_in d j x a.1)
+  pub asks_in : (asked : Option (ℕ × Deal × ℕ)) → Asks row (line prices) held_row 0 asked → Asks whole (line prices) held i asked
+  asks_in None a = nothing_in a
+  asks_in (Some (j, d, x)) a = (wanted_in d j a.0, room_in d j x a.1)

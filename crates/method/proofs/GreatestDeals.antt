@@ -7,10 +7,10 @@ use mathlib.Core.Logic.{⊎_elim}
 use lib.Dec.{ltb}
 use native.Mathlib.Omega.{arith}
 use borrow.Author.Tests.{lt-ltb, le-ltb}
+use Rattle.std.specs.Prelude.{None, Some}
 use Rattle.grid.proofs.Cases.{by_index, lt_or_le}
 use Rattle.market.specs.declared.Deal.{Deal}
 use Rattle.market.specs.declared.Deal.TheVariants.{Tariff, Free}
-use Rattle.method.specs.declared.Best.TheVariants.{Nothing, Offer}
 use Rattle.method.specs.Choice.{Greatest}
 
 -- top is the greater number of pilot j, who is among the first k
@@ -52,7 +52,7 @@ greater_is f j =
     (lt_or_le (f Tariff j) (f Free j))
 
 pub greatest_some : (f : Deal → ℕ → ℕ) (k l top j : ℕ) (d : Deal) → d ≡ cond (ltb (f Tariff j) (f Free j)) Free Tariff → l ≡ k → 0 < top →
-    Peak f l top j → Greatest f k (Offer j d)
+    Peak f l top j → Greatest f k (Some (j, d))
 greatest_some f k l top j d which e h p =
     let s = p.some h in
     let is : f d j ≡ top = rw which (omega (arith, greater_is f j, s.is)) in (
@@ -61,5 +61,5 @@ greatest_some f k l top j d which e h p =
       λ x m hm. omega (arith, is, p.all x m (omega arith)),
     )
 
-pub greatest_none : (f : Deal → ℕ → ℕ) (k l top j : ℕ) → l ≡ k → top ≤ 0 → Peak f l top j → Greatest f k Nothing
+pub greatest_none : (f : Deal → ℕ → ℕ) (k l top j : ℕ) → l ≡ k → top ≤ 0 → Peak f l top j → Greatest f k None
 greatest_none f k l top j e h p = λ x m hm. omega (arith, p.all x m (omega arith))

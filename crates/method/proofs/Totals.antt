@@ -1,6 +1,6 @@
--- A total that a loop adds up is a sum.
+-- A total that a loop adds up is a sum; and the lesser of two numbers.
 -- Assumes nothing.
-use Prim.Native.Nat.{ℕ, ◌+◌}
+use Prim.Native.Nat.{ℕ, ◌+◌, ◌≤◌, ◌<◌, min}
 use mathlib.Core.Path.{◌≡◌, sym, ap, ◌∙◌}
 use native.Mathlib.Omega.{arith}
 use Rattle.grid.specs.Sum.{sum}
@@ -14,3 +14,6 @@ total_more f k total x e d = omega (arith, sum_more f k)
 
 pub total_end : (f : ℕ → ℕ) (k l total : ℕ) → l ≡ k → total ≡ sum f l → total ≡ sum f k
 total_end f k l total e h = h ∙ ap (sum f) e
+
+pub least_of : (r x y : ℕ) → r ≡ min x y → (r ≤ x) × (r ≤ y) × (0 < x → 0 < y → 0 < r)
+least_of r x y e = (omega (arith, e), omega (arith, e), λ p q. omega (arith, e, p, q))

@@ -6,6 +6,7 @@ use mathlib.Core.List.{List, []}
 use mathlib.Core.Logic.{⊎_elim}
 use native.Mathlib.Omega.{arith}
 use lib.ListN.{set}
+use Rattle.std.specs.Prelude.{Option, Some}
 use Rattle.market.specs.declared.Deal.{Deal}
 use Rattle.market.specs.Market.{Ticket}
 use Rattle.market.specs.Method.{slot_for}
@@ -14,8 +15,6 @@ use Rattle.market.proofs.Adding.{never_less}
 use Rattle.market.proofs.Steps.{raised_used}
 use Rattle.offers.specs.declared.Terms.{Terms}
 use Rattle.offers.specs.declared.Agreed.{Agreed}
-use Rattle.method.specs.declared.Request.{Request}
-use Rattle.method.specs.declared.Request.TheVariants.{Hours}
 use Rattle.method.specs.View.{line, ticket, agreed_at, held_in, hours_held}
 use Rattle.method.specs.State.{Fit, Live, FreeHours, Turned}
 use Rattle.method.specs.Choice.{Wanted, Room, Asks}
@@ -44,12 +43,12 @@ abbrev pub Over : Ticket → List ℕ → List (List Agreed) → List ℕ → �
 Over t prices held free i todo = Working t prices held free i 0 × (left t prices held 0 < todo)
 
 -- what is asked for is what the match told of it
-pub as_told : (t : Ticket) (price : ℕ → ℕ) (held : List (List Agreed)) (i : ℕ) (asked told : Request) → asked ≡ told →
+pub as_told : (t : Ticket) (price : ℕ → ℕ) (held : List (List Agreed)) (i : ℕ) (asked told : Option (ℕ × Deal × ℕ)) → asked ≡ told →
     Asks t price (held_in held) i asked → Asks t price (held_in held) i told
-as_told t price held i asked told e a = subst (λ (r : Request). Asks t price (held_in held) i r) e a
+as_told t price held i asked told e a = subst (λ (r : Option (ℕ × Deal × ℕ)). Asks t price (held_in held) i r) e a
 
 pub turn_begins : (t : Ticket) (prices : List ℕ) (held : List (List Agreed)) (free : List ℕ) (i k j : ℕ) (d : Deal) (most : ℕ) →
-    Fit t → Working t prices held free i k → Asks t (line prices) (held_in held) i (Hours j d most) →
+    Fit t → Working t prices held free i k → Asks t (line prices) (held_in held) i (Some (j, d, most)) →
     Turn t prices held free i k j d most (left t prices held k)
 turn_begins t prices held free i k j d most fit work asks =
     record { fit = fit; live = work.live; hours = work.hours; want = asks.0; room = asks.1; begun = refl }

@@ -6,6 +6,7 @@ ghost use Rattle.method.specs.View.{hours_held, agreed_at};
 ghost use Rattle.method.specs.LateHours.{late_slot};
 ghost use Rattle.method.specs.Changes.{Full, MoreHeld, aged_pair, Aged};
 
+use grid::Sides;
 use market::Deal;
 use offers::Agreed;
 
@@ -59,14 +60,14 @@ fn aged(agreed: Agreed) -> Agreed
     }
 }
 
-// All new hours of pilot j become old.
-pub(crate) fn age(held: [[Agreed; 16]; 16], growers: usize, j: usize) -> [[Agreed; 16]; 16]
-    requires full { Full held × (growers ≤ 16) × (j < 16) }
-    requires by_index { (i : ℕ) → i < growers → (agreed_at held i j).old_free + (agreed_at held i j).new_free < 65536 }
-    ensures { Full result × Aged held result j growers }
+// All new hours of pilot j become old. By index: only the cell of pilot j is written in each row.
+pub(crate) fn age(held: [[Agreed; 16]; 16], sides: Sides, j: usize) -> [[Agreed; 16]; 16]
+    requires full { Full held × (j < 16) }
+    requires by_index { (i : ℕ) → i < sides.growers → (agreed_at held i j).old_free + (agreed_at held i j).new_free < 65536 }
+    ensures { Full result × Aged held result j sides.growers }
 {
     let mut next = held;
-    for i in 0..growers {
+    for i in 0..sides.growers {
         next[i][j] = aged(next[i][j]);
     }
     next

@@ -5,22 +5,22 @@ ghost use Rattle.market.specs.Method.{hours_of};
 ghost use Rattle.method.specs.View.{line, alone, held_by};
 ghost use Rattle.method.specs.Choice.{chance, Greatest};
 
-use crate::Best;
+use grid::Sides;
+use market::Deal;
 use offers::{Agreed, Terms, better_deal, greater_chance};
 
-// The deal that offers a grower most.
+// The deal that offers a grower most: with which pilot, and which of their deals. By index: a pilot stands at the same place of three rows.
 pub(crate) fn best_deal(
     terms: [Terms; 16],
     agreed: [Agreed; 16],
     price: &[u32; 16],
-    pilots: usize,
-) -> Best
-    requires { pilots ≤ 16 }
-    ensures { Greatest (chance (alone pilots 0 terms) (line price.now) (held_by agreed) 0) pilots result }
+    sides: Sides,
+) -> Option<(usize, Deal)>
+    ensures { Greatest (chance (alone sides.pilots 0 terms) (line price.now) (held_by agreed) 0) sides.pilots result }
 {
     let mut top: u32 = 0;
     let mut pilot: usize = 0;
-    for j in 0..pilots {
+    for j in 0..sides.pilots {
         let chance = greater_chance(terms[j], agreed[j], price[j]);
         if top < chance {
             top = chance;
@@ -29,9 +29,9 @@ pub(crate) fn best_deal(
     }
     if 0 < top {
         let deal = better_deal(terms[pilot], agreed[pilot], price[pilot]);
-        Best::Offer(pilot, deal)
+        Some((pilot, deal))
     } else {
-        Best::Nothing
+        None
     }
 }
 
@@ -43,13 +43,12 @@ pub(crate) fn pair_hours(agreed: Agreed) -> u32
 }
 
 // The hours that a grower holds with the first pilots.
-pub(crate) fn used_by_grower(agreed: [Agreed; 16], pilots: usize) -> u32
-    requires { pilots ≤ 16 }
-    ensures { result ≡ used_by_grower (alone pilots 0 []) (hours_of (held_by agreed)) 0 }
+pub(crate) fn used_by_grower(agreed: [Agreed; 16], sides: Sides) -> u32
+    ensures { result ≡ used_by_grower (alone sides.pilots 0 []) (hours_of (held_by agreed)) 0 }
 {
     let mut total: u32 = 0;
-    for j in 0..pilots {
-        total += pair_hours(agreed[j]);
+    for &pair in &agreed[..sides.pilots] {
+        total += pair_hours(pair);
     }
     total
 }

@@ -9,6 +9,7 @@ ghost use Rattle.method.specs.Result.{pay_at, Flown};
 
 use crate::arith::narrow;
 use euros::whole_euros;
+use grid::Sides;
 use offers::Agreed;
 
 pub(crate) fn zero_prices() -> [u32; 16]
@@ -47,26 +48,26 @@ fn pay_for(hours: u16, price: u32, shift: u32) -> u16
     }
 }
 
-// Writes the hours that everybody flies, and returns the pay. The copies only tell the proof that squares are lent.
+// Writes the hours that everybody flies, and returns the pay. The copies only tell the proof that squares are lent. Both indices are
+// needed: the cell (i, j) of four squares at once.
 pub(crate) fn write_flown(
-    growers: usize,
-    pilots: usize,
+    sides: Sides,
     held: [[Agreed; 16]; 16],
     price: [u32; 16],
     shift: u32,
     tariff_hours: &mut [[u16; 16]; 16],
     free_deal_hours: &mut [[u16; 16]; 16],
 ) -> [[u16; 16]; 16]
-    requires growers_bound { (growers ≤ 16) × (pilots ≤ 16) × (shift ≤ 16) × ((j : ℕ) → j < pilots → line price j ≤ top_price) }
-    requires j_bound { (d : Deal) (i j : ℕ) → i < growers → j < pilots → hours_of (held_in held) d i j < 65536 }
-    ensures { Flown held price shift growers pilots tariff_hours.old free_deal_hours.old
+    requires bounds { (shift ≤ 16) × ((j : ℕ) → j < sides.pilots → line price j ≤ top_price) }
+    requires j_bound { (d : Deal) (i j : ℕ) → i < sides.growers → j < sides.pilots → hours_of (held_in held) d i j < 65536 }
+    ensures { Flown held price shift sides.growers sides.pilots tariff_hours.old free_deal_hours.old
         tariff_hours.new free_deal_hours.new result }
 {
     let _by_tariff = grid::copied(&*tariff_hours);
     let _free = grid::copied(&*free_deal_hours);
     let mut pay = grid::zeros();
-    for i in 0..growers {
-        for j in 0..pilots {
+    for i in 0..sides.growers {
+        for j in 0..sides.pilots {
             let agreed = held[i][j];
             let free = agreed.old_free + agreed.new_free;
             tariff_hours[i][j] = agreed.by_tariff;

@@ -2,6 +2,7 @@
 ghost use Rattle.std.specs.Prelude.{◌≡◌, ℕ, ◌<◌, ◌≤◌, [], get_or, length};
 ghost use Rattle.method.specs.Given.{TermsOf};
 
+use grid::Sides;
 use offers::Terms;
 
 fn no_terms() -> [Terms; 16]
@@ -24,22 +25,20 @@ fn no_rows() -> [[Terms; 16]; 16]
     [row; 16]
 }
 
-// The terms of the first growers and pilots.
+// The terms of the first growers and pilots. Both indices are needed: the cell (i, j) of six squares at once.
 pub(crate) fn terms_square(
-    growers: usize,
-    pilots: usize,
+    sides: Sides,
     tariff_cap: [[u16; 16]; 16],
     tariff_gain: [[u16; 16]; 16],
     tariff_pay: [[u16; 16]; 16],
     free_cap: [[u16; 16]; 16],
     joint_gain: [[u16; 16]; 16],
 ) -> [[Terms; 16]; 16]
-    requires { (growers ≤ 16) × (pilots ≤ 16) }
-    ensures { TermsOf tariff_cap tariff_gain tariff_pay free_cap joint_gain growers pilots result }
+    ensures { TermsOf tariff_cap tariff_gain tariff_pay free_cap joint_gain sides.growers sides.pilots result }
 {
     let mut square = no_rows();
-    for i in 0..growers {
-        for j in 0..pilots {
+    for i in 0..sides.growers {
+        for j in 0..sides.pilots {
             square[i][j] = Terms {
                 tariff_cap: tariff_cap[i][j],
                 tariff_gain: tariff_gain[i][j],

@@ -22,21 +22,7 @@ ghost use Rattle.market.specs.Market.{Sound};
 ghost use Rattle.market.specs.Tables.{ticket_in, settlement_in};
 ghost use Rattle.method.specs.Result.{Beyond};
 
-use market::Deal;
-
-// The deal that offers a grower most: with which pilot, and which of their deals.
-#[derive(Clone, Copy)]
-pub(crate) enum Best {
-    Nothing,
-    Offer(usize, Deal),
-}
-
-// What a grower asks for: hours of the deal that offers him most, with which pilot, which of their deals, and how many.
-#[derive(Clone, Copy)]
-pub(crate) enum Request {
-    Content,
-    Hours(usize, Deal, u16),
-}
+use grid::Sides;
 
 // A sound settlement of the market of the first growers and pilots, at most 16 of each, whatever their hours, caps and amounts: writes
 // the hours of tariff deals and of free deals, and returns the pay per free-deal hour. Beyond those growers and pilots the hours that were
@@ -60,11 +46,12 @@ pub fn settle_squares(
     ensures beyond { Beyond (min 16 growers) (min 16 pilots) tariff_hours.old free_deal_hours.old
         tariff_hours.new free_deal_hours.new result }
 {
-    let n = numbers::within(growers);
-    let m = numbers::within(pilots);
+    let sides = Sides {
+        growers: numbers::within(growers),
+        pilots: numbers::within(pilots),
+    };
     let terms = given::terms_square(
-        n,
-        m,
+        sides,
         tariff_cap,
         tariff_gain,
         tariff_pay,
@@ -72,7 +59,7 @@ pub fn settle_squares(
         joint_gain,
     );
     let mut price = finish::zero_prices();
-    let held = turns::run(n, m, grower_hours, pilot_hours, terms, &mut price);
-    let shift = euros::rounding(m, price);
-    finish::write_flown(n, m, held, price, shift, tariff_hours, free_deal_hours)
+    let held = turns::run(sides, grower_hours, pilot_hours, terms, &mut price);
+    let shift = euros::rounding(sides.pilots, price);
+    finish::write_flown(sides, held, price, shift, tariff_hours, free_deal_hours)
 }

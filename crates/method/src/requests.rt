@@ -3,9 +3,9 @@ ghost use Rattle.std.specs.Prelude.{◌≡◌, ◌+◌, ◌<◌, ◌≤◌};
 ghost use Rattle.method.specs.View.{line, alone, held_by, hours_in, cap_of};
 ghost use Rattle.method.specs.Choice.{Asks};
 
-use crate::arith::{least, narrow};
+use crate::arith::narrow;
 use crate::choice::{best_deal, used_by_grower};
-use crate::{Best, Request};
+use grid::Sides;
 use market::Deal;
 use offers::{Agreed, Terms};
 
@@ -21,36 +21,31 @@ fn room(terms: Terms, agreed: Agreed, deal: Deal) -> u32
     }
 }
 
-// What a grower asks for: nothing without a free hour, else as many hours of his best deal as he has free and it has room for.
+// What a grower asks for: nothing without a free hour, else as many hours of his best deal as he has free and it has room for. Said with
+// which pilot, in which of their deals, and how many.
 pub(crate) fn request(
     terms: [Terms; 16],
     agreed: [Agreed; 16],
     hours: u16,
     price: &[u32; 16],
-    pilots: usize,
-) -> Request
-    requires { pilots ≤ 16 }
-    ensures { Asks (alone pilots hours terms) (line price.now) (held_by agreed) 0 result }
+    sides: Sides,
+) -> Option<(usize, Deal, u16)>
+    ensures { Asks (alone sides.pilots hours terms) (line price.now) (held_by agreed) 0 result }
 {
-    let used = used_by_grower(agreed, pilots);
+    let used = used_by_grower(agreed, sides);
     let own = u32::from(hours);
     if own <= used {
-        return Request::Content;
+        return None;
     }
-    let best = best_deal(terms, agreed, price, pilots);
-    match best {
-        Best::Nothing => Request::Content,
-        Best::Offer(j, deal) => {
-            let most = least(own - used, room(terms[j], agreed[j], deal));
-            Request::Hours(j, deal, narrow(most))
-        }
-    }
+    let (j, deal) = best_deal(terms, agreed, price, sides)?;
+    let most = room(terms[j], agreed[j], deal).min(own - used);
+    Some((j, deal, narrow(most)))
 }
 
 // The grower after grower i; the first, after the last.
-pub(crate) fn following(i: usize, growers: usize) -> usize
-    requires { (i < growers) × (growers ≤ 16) }
-    ensures { (result < growers) × (i + 1 < growers → result ≡ i + 1) × (growers ≤ i + 1 → result ≡ 0) }
+pub(crate) fn following(i: usize, sides: Sides) -> usize
+    requires { i < sides.growers }
+    ensures { (result < sides.growers) × (i + 1 < sides.growers → result ≡ i + 1) × (sides.growers ≤ i + 1 → result ≡ 0) }
 {
-    if i + 1 < growers { i + 1 } else { 0 }
+    if i + 1 < sides.growers { i + 1 } else { 0 }
 }

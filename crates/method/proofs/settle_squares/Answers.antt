@@ -12,11 +12,11 @@ pub run-held-requires-clause-fit : goal.run-held-requires-clause-fit
 run-held-requires-clause-fit c = let a = c.args in
     fits _ _ a.grower_hours a.pilot_hours c.terms_square-terms.result _ (omega arith) (omega arith) c.terms_square-terms.type_inv
 
-pub write_flown-requires-clause-growers_bound : goal.write_flown-requires-clause-growers_bound
-write_flown-requires-clause-growers_bound c =
-    let good : GoodShift (ticket 0 c.within-m.result [] [] []) (line c.run-held.new.price) c.rounding-shift.result =
+pub write_flown-requires-clause-bounds : goal.write_flown-requires-clause-bounds
+write_flown-requires-clause-bounds c =
+    let good : GoodShift (ticket 0 c.within-2.result [] [] []) (line c.run-held.new.price) c.rounding-shift.result =
     found_good c.run-held.new.price _ _ (omega arith) c.rounding-shift.ensures in
-    (omega arith, omega arith, good.small, c.run-held.ensures.live.low)
+    (good.small, c.run-held.ensures.live.low)
 
 pub write_flown-requires-clause-j_bound : goal.write_flown-requires-clause-j_bound
 write_flown-requires-clause-j_bound c = let a = c.args in
@@ -26,8 +26,8 @@ write_flown-requires-clause-j_bound c = let a = c.args in
 
 pub returns-clause-sound : goal.returns-clause-sound
 returns-clause-sound c = let a = c.args in
-    let n = c.within-n in
-    let m = c.within-m in
+    let n = c.within in
+    let m = c.within-2 in
     let t = c.terms_square-terms in
     let good : GoodShift (ticket 0 m.result [] [] []) (line c.run-held.new.price) c.rounding-shift.result =
     found_good c.run-held.new.price _ _ (omega arith) c.rounding-shift.ensures in

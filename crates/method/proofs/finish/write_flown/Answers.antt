@@ -24,9 +24,9 @@ loop-j-preserved c = let inv = c.loop-j.invariant in
     let hi = c.loop-i-test.true in
     let hj = c.loop-j-test.true in (
       omega arith,
-      λ before p. part-put _ _ _ _ _ _ _ (omega arith) hj c.requires.growers_bound.1 (c.requires.j_bound Tariff _ _ hi hj) refl (inv.1 before p),
-      λ before p. part-put _ _ _ _ _ _ _ (omega arith) hj c.requires.growers_bound.1 (c.requires.j_bound Free _ _ hi hj) refl (inv.2 before p),
-      λ before p. part-put _ _ _ _ _ _ _ (omega arith) hj c.requires.growers_bound.1 (search rules) c.pay_for.ensures (inv.3 before p),
+      λ before p. part-put _ _ _ _ _ _ _ (omega arith) hj c.args.sides.few_pilots (c.requires.j_bound Tariff _ _ hi hj) refl (inv.1 before p),
+      λ before p. part-put _ _ _ _ _ _ _ (omega arith) hj c.args.sides.few_pilots (c.requires.j_bound Free _ _ hi hj) refl (inv.2 before p),
+      λ before p. part-put _ _ _ _ _ _ _ (omega arith) hj c.args.sides.few_pilots (search rules) c.pay_for.ensures (inv.3 before p),
     )
 
 pub loop-i-preserved : goal.loop-i-preserved

@@ -10,16 +10,16 @@ pub loop-k-preserved : goal.loop-k-preserved
 loop-k-preserved c = let a = c.args in
     let l = c.loop-k in
     let e = c.row_slack-by.ensures in
-    let bear = growers_more a.growers a.pilots a.terms a.held _ _ l.k _ _ e.0 e.1 l.invariant.2 in
+    let bear = growers_more a.sides.growers a.sides.pilots a.terms a.held _ _ l.k _ _ e.0 e.1 l.invariant.2 in
     (search rules, omega (arith, e.0, l.invariant.1), bear)
 
-pub raise_marked-requires-clause-pilots_bound : goal.raise_marked-requires-clause-pilots_bound
-raise_marked-requires-clause-pilots_bound c =
+pub raise_marked-requires-clause-x_bound : goal.raise_marked-requires-clause-x_bound
+raise_marked-requires-clause-x_bound c =
     let p = c.requires.full in
-    let bear : PilotsBear (among c.loop-step.marks) (line c.args.free) (line c.args.price.now) c.args.pilots c.loop-k.by =
+    let bear : PilotsBear (among c.loop-step.marks) (line c.args.free) (line c.args.price.now) c.args.sides.pilots c.loop-k.by =
     pilots_less _ _ _ _ _ _ c.loop-k.invariant.1 c.pilots_slack-by.ensures in
-    let below = bear.below _ c.if-by-gt0.true (le_refl _) _ p.3 c.if-marks-j.true in
-    (p.2, omega (arith, below))
+    let below = bear.below _ c.if-by-gt0.true (le_refl _) _ p.1 c.if-marks-j.true in
+    omega (arith, below)
 
 pub returns-then-marks-j : goal.returns-then-marks-j
 returns-then-marks-j c = let l = c.loop-k in

@@ -1,1 +1,0 @@
--- `method::requests::request` meets its contract.
