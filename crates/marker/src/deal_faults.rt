@@ -6,6 +6,7 @@ ghost use Rattle.marker.specs.Verdict.{deal_number, deals_judged};
 ghost use Rattle.marker.specs.Tables.{spare_in, deal_found, Origin, ticket_from, settlement_from};
 
 use crate::Party;
+use grid::Sides;
 use market::Deal;
 use verdicts::{Verdict, cheapest_spare};
 
@@ -59,16 +60,15 @@ fn deal_fault(
     deal: Deal,
     grower: Party,
     pilot: Party,
-    n: usize,
-    m: usize,
+    sides: Sides,
     i: usize,
     j: usize,
     tariff_cap: u16,
     free_cap: u16,
     joint_gain: u16,
 ) -> Option<Verdict>
-    requires { (n ≤ 16) × (m ≤ 16) × (i < 16) × (j < 16) }
-    ensures { result ≡ deal_found deal grower pilot n m i j (by_deal tariff_cap free_cap deal) joint_gain }
+    requires { (i < 16) × (j < 16) }
+    ensures { result ≡ deal_found deal grower pilot sides.growers sides.pilots i j (by_deal tariff_cap free_cap deal) joint_gain }
 {
     let hours = hours_with(grower, deal, j);
     let cap = of_deal(deal, tariff_cap, free_cap);
@@ -80,13 +80,13 @@ fn deal_fault(
         i,
         j,
         deal,
-        looked_at(m, i, j, deal),
+        looked_at(sides.pilots, i, j, deal),
         hours,
         cap,
         grower.unused,
         pilot.unused,
-        spare(grower, m, deal, j),
-        spare(pilot, n, deal, i),
+        spare(grower, sides.pilots, deal, j),
+        spare(pilot, sides.growers, deal, i),
         grower.earned[j],
         pilot.earned[i],
         joint_gain,
@@ -95,8 +95,7 @@ fn deal_fault(
 
 // The last walk: the first deal that is idle or blocks, growers, pilots and deals in their order; or else sound, with its worth.
 pub(crate) fn judge_deals(
-    n: usize,
-    m: usize,
+    sides: Sides,
     growers: [Party; 16],
     pilots: [Party; 16],
     tariff_cap: [[u16; 16]; 16],
@@ -104,15 +103,15 @@ pub(crate) fn judge_deals(
     joint_gain: [[u16; 16]; 16],
     worth: u64,
 ) -> Verdict
-    requires { (n ≤ 16) × (m ≤ 16) }
-    ensures { (o : Origin n m growers pilots tariff_cap free_cap joint_gain) →
+    ensures { (o : Origin sides.growers sides.pilots growers pilots tariff_cap free_cap joint_gain) →
         result ≡ deals_judged (ticket_from o) (settlement_from o) worth }
 {
-    let count = 2 * numbers::pairs(n, m);
+    let count = 2 * numbers::pairs(sides.growers, sides.pilots);
     let mut verdict = Verdict::Sound { count, worth };
-    'search: for i in 0..n {
+    // by index: a fault names the places, and the walk is left through its label
+    'search: for i in 0..sides.growers {
         let grower = growers[i];
-        for j in 0..m {
+        for j in 0..sides.pilots {
             let pilot = pilots[j];
             let mut deal = Deal::Tariff;
             loop {
@@ -120,8 +119,7 @@ pub(crate) fn judge_deals(
                     deal,
                     grower,
                     pilot,
-                    n,
-                    m,
+                    sides,
                     i,
                     j,
                     tariff_cap[i][j],

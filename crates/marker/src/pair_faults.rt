@@ -4,12 +4,12 @@ ghost use Rattle.market.specs.Tables.{ticket_in, settlement_in};
 ghost use Rattle.marker.specs.Verdict.{by_pair, pair_verdict, pair_fault_at};
 ghost use Rattle.marker.specs.Tables.{first_found};
 
+use grid::Sides;
 use verdicts::{Verdict, pair_fault};
 
 // The first walk: the first pair at fault.
 pub(crate) fn first_pair_fault(
-    n: usize,
-    m: usize,
+    sides: Sides,
     tariff_cap: [[u16; 16]; 16],
     free_cap: [[u16; 16]; 16],
     joint_gain: [[u16; 16]; 16],
@@ -17,13 +17,13 @@ pub(crate) fn first_pair_fault(
     free_deal_hours: [[u16; 16]; 16],
     pay: [[u16; 16]; 16],
 ) -> Option<Verdict>
-    requires { (n ≤ 16) × (m ≤ 16) }
     ensures { result ≡ first_found
-        (pair_fault_at (ticket_in n m [] [] tariff_cap [] [] free_cap joint_gain) (settlement_in tariff_hours free_deal_hours pay)) (n * m)
-        (by_pair (pair_verdict (ticket_in n m [] [] tariff_cap [] [] free_cap joint_gain) (settlement_in tariff_hours free_deal_hours pay)) m) }
+        (pair_fault_at (ticket_in sides.growers sides.pilots [] [] tariff_cap [] [] free_cap joint_gain) (settlement_in tariff_hours free_deal_hours pay)) (sides.growers * sides.pilots)
+        (by_pair (pair_verdict (ticket_in sides.growers sides.pilots [] [] tariff_cap [] [] free_cap joint_gain) (settlement_in tariff_hours free_deal_hours pay)) sides.pilots) }
 {
-    for i in 0..n {
-        for j in 0..m {
+    // by index: the cell (i, j) of six squares at once, and a fault names it
+    for i in 0..sides.growers {
+        for j in 0..sides.pilots {
             let found = pair_fault(
                 i,
                 j,

@@ -2,11 +2,9 @@
 // a pilot too, whose rows are those of the squares on their side.
 ghost use Rattle.std.specs.Prelude.{◌≡◌, ℕ, ◌<◌, ◌≤◌, [], get_or, length};
 ghost use Rattle.grid.specs.First.{first};
-ghost use Rattle.market.specs.Tables.{ticket_in, settlement_in};
-ghost use Rattle.marker.specs.Tables.{used_in, party_of, party_at, nobody, is_over, IsGrower, IsPilot};
+ghost use Rattle.marker.specs.Tables.{used_in, party_of, party_at, nobody, is_over};
 
 use crate::Party;
-use grid::{differences, turned};
 use numbers::left;
 
 // A party's hours over all deals.
@@ -15,6 +13,7 @@ fn used(tariff: [u16; 16], free: [u16; 16], partners: usize) -> u32
     ensures { result ≡ used_in tariff free partners }
 {
     let mut total: u32 = 0;
+    // by index: the same place of two rows
     for l in 0..partners {
         total += u32::from(tariff[l]) + u32::from(free[l]);
     }
@@ -62,7 +61,7 @@ fn no_parties() -> [Party; 16]
 }
 
 // The parties of one side, with so many partners on the other, by their rows in four squares.
-fn parties(
+pub(crate) fn parties(
     count: usize,
     partners: usize,
     hours: [u16; 16],
@@ -75,6 +74,7 @@ fn parties(
     ensures { (p : ℕ) → p < count → get_or result p nobody ≡ party_at hours tariff_hours free_deal_hours earned share partners p }
 {
     let mut all = no_parties();
+    // by index: the same row of four squares, and the place that it fills
     for p in 0..count {
         all[p] = party(
             hours[p],
@@ -88,58 +88,12 @@ fn parties(
     all
 }
 
-pub(crate) fn all_growers(
-    n: usize,
-    m: usize,
-    hours: [u16; 16],
-    tariff_hours: [[u16; 16]; 16],
-    free_deal_hours: [[u16; 16]; 16],
-    tariff_gain: [[u16; 16]; 16],
-    joint_gain: [[u16; 16]; 16],
-    pay: [[u16; 16]; 16],
-) -> [Party; 16]
-    requires { (n ≤ 16) × (m ≤ 16) }
-    ensures { (i : ℕ) → i < n → IsGrower (ticket_in n m hours [] [] tariff_gain [] [] joint_gain)
-        (settlement_in tariff_hours free_deal_hours pay) i (get_or result i nobody) }
-{
-    // what growers have of an hour of a free deal: the joint gain without the pilot's pay
-    let shares = differences(joint_gain, pay, n, m);
-    parties(
-        n,
-        m,
-        hours,
-        tariff_hours,
-        free_deal_hours,
-        tariff_gain,
-        shares,
-    )
-}
-
-pub(crate) fn all_pilots(
-    n: usize,
-    m: usize,
-    hours: [u16; 16],
-    tariff_hours: [[u16; 16]; 16],
-    free_deal_hours: [[u16; 16]; 16],
-    tariff_pay: [[u16; 16]; 16],
-    pay: [[u16; 16]; 16],
-) -> [Party; 16]
-    requires { (n ≤ 16) × (m ≤ 16) }
-    ensures { (j : ℕ) → j < m → IsPilot (ticket_in n m [] hours [] [] tariff_pay [] [])
-        (settlement_in tariff_hours free_deal_hours pay) j (get_or result j nobody) }
-{
-    let by_tariff = turned(tariff_hours, n, m);
-    let by_free = turned(free_deal_hours, n, m);
-    let earned = turned(tariff_pay, n, m);
-    let share = turned(pay, n, m);
-    parties(m, n, hours, by_tariff, by_free, earned, share)
-}
-
 // The first of so many parties who is over his hours.
 pub(crate) fn first_over(parties: [Party; 16], count: usize) -> usize
     requires { count ≤ 16 }
     ensures { result ≡ first (λ p. is_over (get_or parties p nobody)) count }
 {
+    // by index: the place is the answer
     for p in 0..count {
         let party = parties[p];
         if u32::from(party.own) < party.used {

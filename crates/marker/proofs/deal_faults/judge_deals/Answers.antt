@@ -33,9 +33,9 @@ loop-j-preserved c = (
 
 pub returns-after-search : goal.returns-after-search
 returns-after-search c = λ o. let a = c.args in
-    let e : c.search.i ≡ a.n = omega arith in
+    let e : c.search.i ≡ a.sides.growers = omega arith in
     deals_judged_lem (ticket_from o) (settlement_from o) _
-    (none_le _ _ _ (c.search.invariant.1 o) (omega (arith, ap (λ (k : ℕ). k * a.m) e))) _ c.search.invariant.2
+    (none_le _ _ _ (c.search.invariant.1 o) (omega (arith, ap (λ (k : ℕ). k * a.sides.pilots) e))) _ c.search.invariant.2
 
 pub returns-in-Some : goal.returns-in-Some
 returns-in-Some c = λ o. deal_judged (ticket_from o) (settlement_from o) c.search.i c.loop-j.j c.search-test.true

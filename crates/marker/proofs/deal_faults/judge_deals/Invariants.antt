@@ -8,24 +8,24 @@ use Rattle.marker.specs.Tables.{Origin, ticket_from, settlement_from}
 use Rattle.marker.proofs.deal_faults.judge_deals.Given as goal
 
 abbrev pub invariant-loop-fault : goal.invariant-loop-fault
-invariant-loop-fault l = ((o : Origin l.n l.m l.growers l.pilots l.tariff_cap l.free_cap l.joint_gain) →
-    NoneBefore (deal_fault_at (ticket_from o) (settlement_from o)) (2 * (l.i * l.m + l.j) + deal_number l.deal)) × (l.verdict ≡ Sound (2 * (l.n * l.m)) l.worth)
+invariant-loop-fault l = ((o : Origin l.sides.growers l.sides.pilots l.growers l.pilots l.tariff_cap l.free_cap l.joint_gain) →
+    NoneBefore (deal_fault_at (ticket_from o) (settlement_from o)) (2 * (l.i * l.sides.pilots + l.j) + deal_number l.deal)) × (l.verdict ≡ Sound (2 * (l.sides.growers * l.sides.pilots)) l.worth)
 
 abbrev pub decreases-loop-fault : goal.decreases-loop-fault
 decreases-loop-fault l = 1 - deal_number l.deal
 
 abbrev pub invariant-loop-j : goal.invariant-loop-j
-invariant-loop-j l = (l.j ≤ l.m) ×
-    ((o : Origin l.n l.m l.growers l.pilots l.tariff_cap l.free_cap l.joint_gain) →
-    NoneBefore (deal_fault_at (ticket_from o) (settlement_from o)) (2 * (l.i * l.m + l.j))) × (l.verdict ≡ Sound (2 * (l.n * l.m)) l.worth)
+invariant-loop-j l = (l.j ≤ l.sides.pilots) ×
+    ((o : Origin l.sides.growers l.sides.pilots l.growers l.pilots l.tariff_cap l.free_cap l.joint_gain) →
+    NoneBefore (deal_fault_at (ticket_from o) (settlement_from o)) (2 * (l.i * l.sides.pilots + l.j))) × (l.verdict ≡ Sound (2 * (l.sides.growers * l.sides.pilots)) l.worth)
 
 abbrev pub decreases-loop-j : goal.decreases-loop-j
-decreases-loop-j l = l.m - l.j
+decreases-loop-j l = l.sides.pilots - l.j
 
 abbrev pub invariant-search : goal.invariant-search
-invariant-search l = (l.i ≤ l.n) ×
-    ((o : Origin l.n l.m l.growers l.pilots l.tariff_cap l.free_cap l.joint_gain) →
-    NoneBefore (deal_fault_at (ticket_from o) (settlement_from o)) (2 * (l.i * l.m))) × (l.verdict ≡ Sound (2 * (l.n * l.m)) l.worth)
+invariant-search l = (l.i ≤ l.sides.growers) ×
+    ((o : Origin l.sides.growers l.sides.pilots l.growers l.pilots l.tariff_cap l.free_cap l.joint_gain) →
+    NoneBefore (deal_fault_at (ticket_from o) (settlement_from o)) (2 * (l.i * l.sides.pilots))) × (l.verdict ≡ Sound (2 * (l.sides.growers * l.sides.pilots)) l.worth)
 
 abbrev pub decreases-search : goal.decreases-search
-decreases-search l = l.n - l.i
+decreases-search l = l.sides.growers - l.i

@@ -6,15 +6,15 @@ use Rattle.marker.proofs.Views.{first-grower, first-pilot}
 use Rattle.marker.proofs.Verdicts.{grower-judged, pilot-judged, hours-judged}
 use Rattle.marker.proofs.judging.judge_parties.Goals as goal
 
-pub returns-then-grower-n : goal.returns-then-grower-n
-returns-then-grower-n c = λ o. grower-judged (ticket_from o) (settlement_from o) _ _ (c.first_over-grower.ensures ∙ first-grower o) (omega arith)
+pub returns-then-grower-sides : goal.returns-then-grower-sides
+returns-then-grower-sides c = λ o. grower-judged (ticket_from o) (settlement_from o) _ _ (c.first_over-grower.ensures ∙ first-grower o) (omega arith)
 
-pub returns-then-pilot-m : goal.returns-then-pilot-m
-returns-then-pilot-m c = λ o. pilot-judged (ticket_from o) (settlement_from o) _ _ (c.first_over-grower.ensures ∙ first-grower o)
-    c.if-grower-n.false
-    _ (c.first_over-pilot.ensures ∙ first-pilot o) c.if-pilot-m.true
+pub returns-then-pilot-sides : goal.returns-then-pilot-sides
+returns-then-pilot-sides c = λ o. pilot-judged (ticket_from o) (settlement_from o) _ _ (c.first_over-grower.ensures ∙ first-grower o)
+    c.if-grower-sides.false
+    _ (c.first_over-pilot.ensures ∙ first-pilot o) c.if-pilot-sides.true
 
 pub returns : goal.returns
 returns c = λ o. c.judge_deals.ensures o ∙ hours-judged (ticket_from o) (settlement_from o) _ _
-    (c.first_over-grower.ensures ∙ first-grower o) c.if-grower-n.false
-    _ (c.first_over-pilot.ensures ∙ first-pilot o) c.if-pilot-m.false
+    (c.first_over-grower.ensures ∙ first-grower o) c.if-grower-sides.false
+    _ (c.first_over-pilot.ensures ∙ first-pilot o) c.if-pilot-sides.false
