@@ -27,6 +27,7 @@ fn joined(prior: usize, b: usize) -> u16
     ensures { result ≡ joined prior b }
 {
     if prior < 128 {
+        // `as` is proved to lose nothing here; `try_from` would ask for an answer that is never given.
         b as u16
     } else {
         (prior - 128 + 128 * b) as u16

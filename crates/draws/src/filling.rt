@@ -23,6 +23,7 @@ pub(crate) fn fill_hours(list: &mut [u16], from: usize, count: usize, x: u32) ->
 {
     let mut here = x;
     let mut without: u32 = 0;
+    // By k: the generator goes from number to number while the list is written from a place on.
     for k in 0..count {
         let drawn = hours(here);
         list[from + k] = drawn;
@@ -67,6 +68,7 @@ pub(crate) fn fill_pairs(
         (drawn_pairs (none_of hours.without growers pilots) 0 count hours.number) }
 {
     let mut here = hours.number;
+    // By k: the number of a pair says whose it is, and where its five numbers go.
     for k in 0..count {
         let none = pair_has_none(hours.without, growers, pilots, k);
         here = fill_pair(list, from + 5 * k, none, here);

@@ -10,7 +10,7 @@ const PRIME: u64 = 2147483647;
 fn times(x: u32, y: u32) -> u32
     ensures { result ≡ generated.times x y }
 {
-    (x as u64 * y as u64 % PRIME) as u32
+    (u64::from(x) * u64::from(y) % PRIME) as u32
 }
 
 pub(crate) fn next(x: u32) -> u32

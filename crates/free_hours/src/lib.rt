@@ -67,6 +67,7 @@ fn free_of(ticket: &[u16], settlement: &[u16], side: Side, party: u16) -> u16
 {
     let end = parties(ticket, across(side));
     let mut free = hours_of(ticket, side, party);
+    // By number: the pair's hours stand at a place that both numbers give. A number below 17 fits in `u16`.
     for partner in 0..end {
         free = less_partner(free, settlement, side, party, partner as u16);
     }
@@ -79,6 +80,7 @@ pub fn of_side(ticket: &[u16], settlement: &[u16], side: Side) -> [u16; 16]
 {
     let end = parties(ticket, side);
     let mut row = grid::zero_row();
+    // By number, which `free_of` takes.
     for party in 0..end {
         row[party] = free_of(ticket, settlement, side, party as u16);
     }

@@ -48,6 +48,7 @@ pub fn turned(sq: [[u16; 16]; 16], rows: usize, columns: usize) -> [[u16; 16]; 1
     let height = numbers::within(columns);
     let width = numbers::within(rows);
     let mut q = zeros();
+    // Both indices are needed: the cell (i, j) of one square is the cell (j, i) of the other.
     for j in 0..height {
         for i in 0..width {
             q[j][i] = sq[i][j];
@@ -68,6 +69,7 @@ pub fn differences(
     let height = numbers::within(rows);
     let width = numbers::within(columns);
     let mut q = zeros();
+    // Both indices are needed: each cell is made of the same cell of two squares.
     for i in 0..height {
         for j in 0..width {
             q[i][j] = one[i][j].saturating_sub(other[i][j]);

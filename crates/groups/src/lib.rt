@@ -11,6 +11,7 @@ const GROUPS: usize = 2;
 const TOO_LONG: usize = 128 * 128;
 
 // What reading a number at a place finds: its value and the place after it, or why there is none.
+// An enum and no `Result`: a caller tells all four cases apart, and one of them has two numbers.
 #[derive(Clone, Copy)]
 pub enum Got {
     Number { value: usize, next: usize },
@@ -30,6 +31,7 @@ pub fn number(s: &[u8], at: usize) -> Got
     let mut value: usize = 0;
     let mut weight: usize = 1;
     let mut least: usize = 0;
+    // By k, not over the bytes: that there is no byte at `at + k` is an answer too.
     for k in 0..GROUPS {
         let here = at + k;
         if s.len() <= here {

@@ -55,6 +55,7 @@ fn row_passes(list: &[u16], growers: usize, pilots: usize, i: usize, from: usize
     let off = list[HEAD + i] == 0;
     let mut pass = true;
     let mut at = from;
+    // Joined by `&`: no branch depends on the numbers of a pair, as it would in `all`.
     for j in 0..pilots {
         let none = off | (list[HEAD + growers + j] == 0);
         pass = pass & pair_at(none, list, at);
@@ -70,6 +71,7 @@ fn pairs_pass(list: &[u16], growers: usize, pilots: usize) -> bool
 {
     let mut pass = true;
     let mut from = HEAD + growers + pilots;
+    // As in a row: joined by `&`, not by `all`.
     for i in 0..growers {
         pass = pass & row_passes(list, growers, pilots, i, from);
         from = from + 5 * pilots;

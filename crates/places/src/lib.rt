@@ -22,6 +22,7 @@ fn faulty(document: Document, list: &[u16]) -> bool
 pub fn of_list(document: Document, list: &[u16]) -> usize
     ensures { result ≡ place_in document list.now }
 {
+    // By k: the beginning that ends with each number is tried.
     for k in 0..list.len() {
         if faulty(document, front(list, k + 1)) {
             return k;

@@ -18,6 +18,7 @@ pub(crate) fn fill(s: &[u8], list: &mut [u16]) -> usize
     ensures { take result list.new ≡ numbers_in (length list.old) s.now }
 {
     let mut here: usize = 0;
+    // k counts numbers, `here` bytes.
     for k in 0..list.len() {
         let got = number(s, here);
         let Got::Number { value, next } = got else {

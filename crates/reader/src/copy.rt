@@ -27,6 +27,7 @@ fn fill(s: &[u8], list: &mut [u16], count: usize)
     ensures { list.new ≡ sets list.old 0 (first_numbers count s.now) }
 {
     let mut here: usize = 0;
+    // k counts numbers, `here` bytes. The casts below lose nothing: what was scanned fits.
     for k in 0..count {
         let got = number(s, here);
         let Got::Number { value, next } = got else {

@@ -64,6 +64,7 @@ fn walk<S: Source>(
     ensures { result ≡ gone_on document S.read (S.held source) count from }
 {
     let mut here = from;
+    // k counts: where the next number stands is told by the last one.
     for k in 0..count {
         let got = source.number_at(here.next);
         here = step(document, here.state, got)?;

@@ -112,6 +112,7 @@ pub fn fill(list: &[u16], quantity: Quantity, into: &mut [[u16; 16]; 16])
     let columns = numbers::within(m);
     let spread = places(quantity, n, m);
     let each = spread.each;
+    // Both indices are needed: a cell stands where its pair does, and the place goes on over a whole row of pilots.
     for i in 0..rows {
         let mut place = row_place(spread.first, each, m, i);
         for j in 0..columns {
@@ -137,6 +138,7 @@ fn row(list: &[u16], from: usize, count: usize) -> [u16; 16]
 {
     let end = numbers::within(count);
     let mut r = grid::zero_row();
+    // By i: a list that is too short has 0 there, which a slice of it has not.
     for i in 0..end {
         r[i] = numbers::entry(list, from + i);
     }
