@@ -16,7 +16,7 @@ use Rattle.checks.specs.Refusals.{settlement_refusals}
 use Rattle.checks.specs.Hours.{noted_all, none_of, none_in}
 use Rattle.checks.specs.TicketFaults.{cap_fault, amount_fault, pair_passes, fault_of}
 use Rattle.checks.specs.SettlementFaults.{settlement_fault}
-use Rattle.std.specs.Prelude.{Ok, Err, is_ok}
+use Rattle.std.specs.Prelude.{Ok, is_ok}
 use Rattle.checks.proofs.FaultLaws.{is_ok-true, must_holds, party_range, settlement_passes_lem}
 use Rattle.checks.proofs.HourLaws.{none-noted, none_taken}
 use Rattle.groups.specs.Groups.{groups}

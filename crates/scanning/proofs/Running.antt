@@ -6,8 +6,7 @@ use Prim.Native.Nat.{ℕ, zero, suc, ◌+◌, ◌-◌, ◌≤◌, ◌<◌}
 use native.Mathlib.Numerals.{add-one}
 use native.Mathlib.Omega.{arith}
 use borrow.Author.Tests.{lt-ltb, le-ltb}
-use lib.ListN.{length, get_or, drop, length-drop, length-append, drop_of_length-le}
-use lib.Seq.{drop-cons}
+use lib.ListN.{length, drop, length-drop, length-append}
 use Rattle.checks.specs.declared.refusals.Document.{Document}
 use Rattle.groups.specs.declared.Got.{Got}
 use Rattle.documents.specs.declared.State.{State}
@@ -15,8 +14,8 @@ use Rattle.scanning.specs.declared.Reached.{Reached}
 use Rattle.std.specs.Prelude.{Result, Ok, Err, IsErrAnd}
 use Rattle.checks.specs.declared.refusals.Refusal.{Refusal}
 use Rattle.checks.specs.Refusals.{Checked, refusals_of, giving}
-use Rattle.groups.specs.Groups.{Read, Number, Ends, TooLong, Padded, groups, bytes, placed}
-use Rattle.documents.specs.Walk.{Source, read_head, Taken, Refused, Took, met, unless, with, next, closed, final, walk, rest, form}
+use Rattle.groups.specs.Groups.{Read, Number, Ends, TooLong, Padded, placed}
+use Rattle.documents.specs.Walk.{Source, Taken, Refused, Took, met, unless, with, next, closed, final, walk, rest, form}
 use Rattle.documents.specs.State.{start}
 use Rattle.documents.specs.Layout.{fault_in, after_in, body_in, form_of}
 use Rattle.scanning.specs.Runs.{scanned, reached, begun, going, stepped, one_more, gone_on}
@@ -25,8 +24,7 @@ use Rattle.scanning.specs.Sources.{Ending}
 use Rattle.scanning.specs.Runs.{closing}
 use Rattle.documents.specs.Walk.{Gives}
 use Rattle.grid.proofs.Cases.{never}
-use Rattle.groups.proofs.Ends.{EndOf, end_self, end_next, end_trans, end_place, end_length}
-use Rattle.groups.proofs.GroupLaws.{read_rest}
+use Rattle.groups.proofs.Ends.{EndOf, end_self, end_trans, end_place, end_length}
 use Rattle.documents.proofs.WalkLaws.{walk_none, walk_more, walk_took, form_parts}
 use Rattle.documents.proofs.LayoutLaws.{known_after, start_known}
 

@@ -1,6 +1,7 @@
 -- From a ticket's bytes to its sheet: what the steps may assume, the answers that cannot come, and the copy into the lent buffer.
 -- Assumes nothing.
 use mathlib.Core.Path.{◌≡◌, refl, sym, ap, ◌∙◌}
+use Rattle.std.specs.Prelude.{Result, Ok, Err}
 use mathlib.Core.List.{List, [], ◌∷◌, ◌++◌}
 use Prim.Native.Nat.{ℕ, ◌≤◌, ◌<◌}
 use native.Mathlib.Omega.{arith}
@@ -9,9 +10,9 @@ use lib.Seq.{length-sets, take_at}
 use Rattle.grid.specs.Front.{front}
 use Rattle.grid.proofs.Cases.{never}
 use Rattle.numbers.proofs.Products.{prod_small}
-use Rattle.reader.specs.declared.Reply.{Reply}
-use Rattle.checks.specs.Refusals.{no_room}
-use Rattle.reader.specs.Walk.{Outcome, Refusal, Numbers}
+use Rattle.checks.specs.declared.refusals.Refusal.{Refusal}
+use Rattle.checks.specs.Refusals.{number_of}
+use Rattle.reader.specs.Walk.{Outcome}
 use Rattle.reader.specs.Answer.{unpacked, settlement_read, reply}
 use Rattle.reader.proofs.Telling.{refuses, counts}
 use Rattle.reader.proofs.Facts.{unpacked_shape, settlement_shape, settlement_few, reply-with_room, reply_refused, written_front}
@@ -32,7 +33,7 @@ use Rattle.ascii.proofs.LineLaws.{line_short}
 use Rattle.sheets.proofs.SheetLaws.{lines_short, few_growers, few_pilots, all_deals_marked, all_deals_judged}
 
 -- No sheet is longer than the room that is asked for it.
-settled_short : (xs ys : List ℕ) → length (sheet_text xs ys) ≤ room_for_sheet (Numbers xs)
+settled_short : (xs ys : List ℕ) → length (sheet_text xs ys) ≤ room_for_sheet (Ok xs)
 settled_short xs ys =
     omega (
       arith,
@@ -44,25 +45,25 @@ settled_short xs ys =
     )
 
 pub sheet_short : (o : Outcome) (text : List ℕ) → IsSheet o text → length text ≤ room_for_sheet o
-sheet_short (Refusal w) text i = omega (arith, ap length i)
-sheet_short (Numbers xs) text i = omega (arith, ap length i.same, settled_short xs i.numbers)
+sheet_short (Err w) text i = omega (arith, ap length i)
+sheet_short (Ok xs) text i = omega (arith, ap length i.same, settled_short xs i.numbers)
 
 -- A page has that room for every ticket.
-pub refusal_in_page : (w : ℕ) → room_for_sheet (Refusal w) ≤ page_bytes
-refusal_in_page w = omega (arith, line_short (w ∷ []))
+pub refusal_in_page : (w : Refusal) → room_for_sheet (Err w) ≤ page_bytes
+refusal_in_page w = omega (arith, line_short (number_of w ∷ []))
 
 pub room_in_page : (ticket : List ℕ) (o : Outcome) → unpacked ticket ≡ o → room_for_sheet o ≤ page_bytes
-room_in_page ticket (Refusal w) e = refusal_in_page w
-room_in_page ticket (Numbers xs) e =
+room_in_page ticket (Err w) e = refusal_in_page w
+room_in_page ticket (Ok xs) e =
     let h = unpacked_shape ticket xs e in
     omega (arith, prod_small (growers_of xs) (pilots_of xs) h.growers.1 h.pilots.1)
 
 -- The settlement's file is read: no refusal, and the list is that of the sound settlement.
 module _ {ticket xs file : List ℕ} (f : SoundFile ticket xs file) (n m : ℕ) (en : n ≡ growers_of xs) (em : m ≡ pilots_of xs) where
-  reads : settlement_read n m file ≡ Numbers f.numbers
+  reads : settlement_read n m file ≡ Ok f.numbers
   reads = rw (en, em) f.settles.read
 
-  pub file_not_refused : {A : Type 0} (zeros : List ℕ) (w : ℕ) → length zeros ≡ 771 → Reply.Refused w ≡ reply (length zeros)
+  pub file_not_refused : {A : Type 0} (zeros : List ℕ) (w : Refusal) → length zeros ≡ 771 → Err w ≡ reply (length zeros)
       (settlement_read n m file) → A
   file_not_refused zeros w long e =
       let few = settlement_few n m f.numbers (settlement_shape n m file f.numbers reads)
@@ -70,10 +71,10 @@ module _ {ticket xs file : List ℕ} (f : SoundFile ticket xs file) (n m : ℕ) 
       let done = e ∙ ap (reply (length zeros)) reads ∙ reply-with_room (length zeros) f.numbers (omega (arith, few, long)) in
       never cc
 
-  module _ (list : List ℕ) (read : settlement_read n m file ≡ Numbers list) where
+  module _ (list : List ℕ) (read : settlement_read n m file ≡ Ok list) where
     list_settles : Settles ticket xs file list
     list_settles =
-        let e : Numbers f.numbers ≡ Numbers list = sym reads ∙ read in
+        let e : Ok f.numbers ≡ Ok list = sym reads ∙ read in
         let same : f.numbers ≡ list = cc in
         rw same at f.settles
 
@@ -83,7 +84,7 @@ module _ {ticket xs file : List ℕ} (f : SoundFile ticket xs file) (n m : ℕ) 
       marks = h _ _ (all_deals_marked list_settles) ∙ sym (ap verdict_count (all_deals_judged list_settles));
     }
 
-    pub printed_settled : {page page₁ : List ℕ} {end : ℕ} → Wrote page page₁ 0 end (sheet_text xs list) → Printed (Numbers xs) page page₁ end
+    pub printed_settled : {page page₁ : List ℕ} {end : ℕ} → Wrote page page₁ 0 end (sheet_text xs list) → Printed (Ok xs) page page₁ end
     printed_settled w = record {
       text = sheet_text xs list;
       sheet = record { file = file; numbers = list; read = list_settles.read; good = list_settles.good; same = refl };
@@ -91,15 +92,15 @@ module _ {ticket xs file : List ℕ} (f : SoundFile ticket xs file) (n m : ℕ) 
     }
 
 -- The ticket is settled: no refusal, and what was written is the file of a sound settlement.
-module _ (ticket xs lent after : List ℕ) (r : Reply) (e : unpacked ticket ≡ Numbers xs) (long : length lent ≡ 1027)
+module _ (ticket xs lent after : List ℕ) (r : Result ℕ Refusal) (e : unpacked ticket ≡ Ok xs) (long : length lent ≡ 1027)
     (s : Settled ticket lent after r) where
-  pub settle_not_refused : {A : Type 0} (w : ℕ) → r ≡ Reply.Refused w → A
+  pub settle_not_refused : {A : Type 0} (w : Refusal) → r ≡ Err w → A
   settle_not_refused w f =
       let h = unpacked_shape ticket xs e in
       absurd (not_refused ticket xs lent after e w
       (omega (arith, long, prod_small (growers_of xs) (pilots_of xs) h.growers.1 h.pilots.1)) (rw f at s))
 
-  module _ (count : ℕ) (f : r ≡ Reply.Done count) where
+  module _ (count : ℕ) (f : r ≡ Ok count) where
     inside : SettledIn ticket xs lent after count
     inside = done_settled ticket xs lent after e count (rw f at s)
 
@@ -110,8 +111,8 @@ module _ (ticket xs lent after : List ℕ) (r : Reply) (e : unpacked ticket ≡ 
     }
 
 -- The page is copied if there is room.
-pub sheeted_short : (o : Outcome) (lent : List ℕ) → length lent < room_for_sheet o → Sheeted o lent lent (Reply.Refused no_room)
-sheeted_short o lent h = record { short = λ _. (refuses _ no_room refl, refl); printed = λ l. absurd (omega arith) }
+pub sheeted_short : (o : Outcome) (lent : List ℕ) → length lent < room_for_sheet o → Sheeted o lent lent (Err Refusal.NoRoom)
+sheeted_short o lent h = record { short = λ _. (refuses _ Refusal.NoRoom refl, refl); printed = λ l. absurd (omega arith) }
 
 module _ {o : Outcome} {blank page : List ℕ} {end : ℕ} (p : Printed o blank page end) (long : length blank ≡ page_bytes) where
   end_is : end ≡ length p.text
@@ -133,40 +134,40 @@ module _ {o : Outcome} {blank page : List ℕ} {end : ℕ} (p : Printed o blank 
         ∙ take_at p.text (drop (length p.text) blank) end (sym end_is)
 
     pub sheeted_copied : (lent after : List ℕ) → room_for_sheet o ≤ length lent → after ≡ front page end lent →
-        Sheeted o lent after (Reply.Done end)
+        Sheeted o lent after (Ok end)
     sheeted_copied lent after h f = record {
       short = λ l. absurd (omega arith);
       printed = λ _. record {
         text = p.text;
         sheet = p.sheet;
         within = omega (arith, short_enough);
-        answer = counts _ _ (ap Reply.Done end_is);
+        answer = counts _ _ (ap (λ (k : ℕ). Ok k) end_is);
         left = f ∙ ap (λ (l : List ℕ). l ++ drop end lent) front_is ∙ ap (λ (k : ℕ). p.text ++ drop k lent) end_is;
       };
     }
 
 -- The line of a refusal is printed, and the room that is asked for it is its length.
-module _ (w : ℕ) {blank page : List ℕ} {end : ℕ} (v : Wrote blank page 0 end (refused_text w)) where
-  pub refusal_printed : Printed (Refusal w) blank page end
-  refusal_printed = record { text = refused_text w; sheet = refl; wrote = v }
+module _ (w : Refusal) {blank page : List ℕ} {end : ℕ} (v : Wrote blank page 0 end (refused_text (number_of w))) where
+  pub refusal_printed : Printed (Err w) blank page end
+  refusal_printed = record { text = refused_text (number_of w); sheet = refl; wrote = v }
 
-  pub refusal_room : (room : ℕ) → end ≤ room → room_for_sheet (Refusal w) ≤ room
+  pub refusal_room : (room : ℕ) → end ≤ room → room_for_sheet (Err w) ≤ room
   refusal_room room h = omega (arith, v.ends)
 
-  pub refusal_short : (lent : List ℕ) → length lent < end → Sheeted (Refusal w) lent lent (Reply.Refused no_room)
-  refusal_short lent h = sheeted_short (Refusal w) lent (omega (arith, v.ends))
+  pub refusal_short : (lent : List ℕ) → length lent < end → Sheeted (Err w) lent lent (Err Refusal.NoRoom)
+  refusal_short lent h = sheeted_short (Err w) lent (omega (arith, v.ends))
 
 -- From the ticket's bytes: what was refused, and what was unpacked.
-pub refused_sheeted : (s zeros lent after : List ℕ) (r : Reply) (w : ℕ) → length zeros ≡ 1315 →
-    Reply.Refused w ≡ reply (length zeros) (unpacked s) → Sheeted (Refusal w) lent after r → Sheeted (unpacked s) lent after r
+pub refused_sheeted : (s zeros lent after : List ℕ) (r : Result ℕ Refusal) (w : Refusal) → length zeros ≡ 1315 →
+    Err w ≡ reply (length zeros) (unpacked s) → Sheeted (Err w) lent after r → Sheeted (unpacked s) lent after r
 refused_sheeted s zeros lent after r w long e a =
     rw (reply_refused (length zeros) (unpacked s) w (λ xs f. omega (arith, (unpacked_shape s xs f).few, long)) e) a
 
-pub unpacked_sheeted : (s xs lent after : List ℕ) (r : Reply) → unpacked s ≡ Numbers xs → Sheeted (Numbers xs) lent after r →
+pub unpacked_sheeted : (s xs lent after : List ℕ) (r : Result ℕ Refusal) → unpacked s ≡ Ok xs → Sheeted (Ok xs) lent after r →
     Sheeted (unpacked s) lent after r
 unpacked_sheeted s xs lent after r e a = rw e a
 
 -- A buffer as long as a page is never refused.
-pub page_suffices : (ticket lent after : List ℕ) (r : Reply) → Sheeted (unpacked ticket) lent after r → page_bytes ≤ length lent →
+pub page_suffices : (ticket lent after : List ℕ) (r : Result ℕ Refusal) → Sheeted (unpacked ticket) lent after r → page_bytes ≤ length lent →
     SheetIn (unpacked ticket) lent after r
 page_suffices ticket lent after r s h = s.printed (omega (arith, room_in_page ticket (unpacked ticket) refl))

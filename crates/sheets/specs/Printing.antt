@@ -1,7 +1,7 @@
 -- What the steps between a ticket's bytes and its sheet know and leave.
 -- Assumes nothing.
-use Rattle.std.specs.Prelude.{ℕ, ◌≡◌, List}
-use Rattle.reader.specs.Walk.{Outcome, Numbers}
+use Rattle.std.specs.Prelude.{ℕ, ◌≡◌, List, Ok}
+use Rattle.reader.specs.Walk.{Outcome}
 use Rattle.reader.specs.Answer.{unpacked, settlement_read}
 use Rattle.tables.specs.View.{growers_of, pilots_of, ticket_of, settlement_of}
 use Rattle.marker.specs.Verdict.{judged}
@@ -12,8 +12,8 @@ use Rattle.sheets.specs.Sheeted.{IsSheet}
 
 -- the numbers xs of a ticket's bytes, and the numbers ys of the file of a sound settlement of it
 pub record Settles (ticket xs file ys : List ℕ) : Type 0 where
-  pub unpacks : unpacked ticket ≡ Numbers xs
-  pub read : settlement_read (growers_of xs) (pilots_of xs) file ≡ Numbers ys
+  pub unpacks : unpacked ticket ≡ Ok xs
+  pub read : settlement_read (growers_of xs) (pilots_of xs) file ≡ Ok ys
   pub good : SoundNumbers xs ys
 
 -- the same without the bytes

@@ -1,15 +1,14 @@
 -- Bytes written into a line, what is lent of it, and how long its parts are.
 -- Assumes nothing.
 use mathlib.Core.Path.{◌≡◌, refl, sym, ap}
+use Rattle.std.specs.Prelude.{Result, Ok, Err}
 use mathlib.Core.List.{List, [], ◌∷◌, ◌++◌}
 use Prim.Native.Nat.{ℕ, ◌+◌, ◌≤◌, ◌<◌}
 use native.Mathlib.Omega.{arith}
 use borrow.Author.Tests.{le-leb}
 use lib.ListN.{length, take, length-append}
 use lib.Seq.{take_at}
-use Rattle.reader.specs.declared.Reply.{Reply}
-use Rattle.checks.specs.Refusals.{no_room}
-use Rattle.reader.specs.Walk.{Numbers}
+use Rattle.checks.specs.declared.refusals.Refusal.{Refusal}
 use Rattle.reader.specs.Answer.{Tells, kept}
 use Rattle.reader.proofs.Facts.{reply-with_room, reply_without_room, kept_without_room, written_front}
 use Rattle.reader.proofs.Telling.{tells}
@@ -37,24 +36,24 @@ module _ {blank page : List ℕ} {end : ℕ} (x : List ℕ) (w : Wrote blank pag
   pub front_long : end ≡ length (take end page)
   front_long = omega (arith, w.ends, ap length front_is)
 
-  pub front_told : (r : Reply) (lent after : List ℕ) →
-      Tells r (length lent) (Numbers (take end page)) × (after ≡ kept lent (Numbers (take end page))) →
-      Tells r (length lent) (Numbers x) × (after ≡ kept lent (Numbers x))
+  pub front_told : (r : Result ℕ Refusal) (lent after : List ℕ) →
+      Tells r (length lent) (Ok (take end page)) × (after ≡ kept lent (Ok (take end page))) →
+      Tells r (length lent) (Ok x) × (after ≡ kept lent (Ok x))
   front_told r lent after h = rw front_is at h
 
 -- Bytes lent: none where there is no room for all.
 module _ (bytes lent : List ℕ) where
   pub lend_short : length lent < length bytes →
-      Tells (Reply.Refused no_room) (length lent) (Numbers bytes) × (lent ≡ kept lent (Numbers bytes))
+      Tells (Err Refusal.NoRoom) (length lent) (Ok bytes) × (lent ≡ kept lent (Ok bytes))
   lend_short h = (
-    tells _ (length lent) (Numbers bytes) (sym (reply_without_room (length lent) bytes h)),
+    tells _ (length lent) (Ok bytes) (sym (reply_without_room (length lent) bytes h)),
     sym (kept_without_room lent bytes h),
   )
 
   pub lend_copied : (after : List ℕ) (place : ℕ) → length bytes ≤ length lent → Wrote lent after 0 place bytes →
-      Tells (Reply.Done (length bytes)) (length lent) (Numbers bytes) × (after ≡ kept lent (Numbers bytes))
+      Tells (Ok (length bytes)) (length lent) (Ok bytes) × (after ≡ kept lent (Ok bytes))
   lend_copied after place h w = (
-    tells _ (length lent) (Numbers bytes) (sym (reply-with_room (length lent) bytes h)),
+    tells _ (length lent) (Ok bytes) (sym (reply-with_room (length lent) bytes h)),
     rw (le-leb (length bytes) (length lent) h) w.stored,
   )
 

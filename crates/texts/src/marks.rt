@@ -1,6 +1,5 @@
 // The line that tells what marking answered.
-ghost use Rattle.std.specs.Prelude.{◌≡◌, ◌+◌, ◌<◌, ◌≤◌, length};
-ghost use Rattle.reader.specs.Walk.{Numbers};
+ghost use Rattle.std.specs.Prelude.{◌≡◌, ◌+◌, ◌<◌, ◌≤◌, length, Ok};
 ghost use Rattle.reader.specs.Answer.{Tells, kept};
 ghost use Rattle.verdicts.specs.Values.{Bounded};
 ghost use Rattle.marker.specs.Marked.{marked_values};
@@ -9,8 +8,8 @@ ghost use Rattle.ascii.specs.Writing.{Wrote};
 ghost use Rattle.ascii.specs.Lines.{refused_text};
 ghost use Rattle.texts.specs.MarkLine.{line_bytes, field, deal_word, head_of, verdict_line, mark_line};
 
+use checks::Refusal;
 use market::Deal;
-use reader::{NO_ROOM, Reply};
 use verdicts::Values;
 
 // The bytes of the longest line: `MARK `, four numbers of three digits with what stands after each, and `tariff `.
@@ -64,7 +63,7 @@ fn head(line: &mut [u8], values: Values) -> usize
     ensures { Wrote line.old line.new 0 result (head_of values) }
 {
     let first = word(line, 0, b"MARK ");
-    let second = spaced(line, first, values.verdict as usize);
+    let second = spaced(line, first, usize::from(values.verdict));
     let third = spaced(line, second, values.grower);
     spaced(line, third, values.pilot)
 }
@@ -86,7 +85,7 @@ fn refusal_line(line: &mut [u8], why: u8) -> usize
     ensures { Wrote line.old line.new 0 result (refused_text why) }
 {
     let next = word(line, 0, b"REFUSED ");
-    let last = number(line, next, why as usize);
+    let last = number(line, next, usize::from(why));
     word(line, last, b"\n")
 }
 
@@ -101,21 +100,21 @@ fn tell(line: &mut [u8], values: Values) -> usize
 }
 
 // Writes bytes at the front of a lent buffer, if it has room for them.
-pub(crate) fn lend(bytes: &[u8], text: &mut [u8]) -> Reply
-    ensures tells { Tells result (length text.old) (Numbers bytes.now) }
-    ensures text_after { text.new ≡ kept text.old (Numbers bytes.now) }
+pub(crate) fn lend(bytes: &[u8], text: &mut [u8]) -> Result<usize, Refusal>
+    ensures tells { Tells result (length text.old) (Ok bytes.now) }
+    ensures text_after { text.new ≡ kept text.old (Ok bytes.now) }
 {
     if text.len() < bytes.len() {
-        return Reply::Refused { why: NO_ROOM };
+        return Err(Refusal::NoRoom);
     }
     word(text, 0, bytes);
-    Reply::Done { count: bytes.len() }
+    Ok(bytes.len())
 }
 
 // Marks a settlement against a ticket, both as the bytes of files, and writes the answer's line at the front of a lent buffer.
-pub fn mark_line(ticket: &[u8], settlement: &[u8], text: &mut [u8]) -> Reply
-    ensures tells { Tells result (length text.old) (Numbers (mark_line (marked_values ticket.now settlement.now))) }
-    ensures text_after { text.new ≡ kept text.old (Numbers (mark_line (marked_values ticket.now settlement.now))) }
+pub fn mark_line(ticket: &[u8], settlement: &[u8], text: &mut [u8]) -> Result<usize, Refusal>
+    ensures tells { Tells result (length text.old) (Ok (mark_line (marked_values ticket.now settlement.now))) }
+    ensures text_after { text.new ≡ kept text.old (Ok (mark_line (marked_values ticket.now settlement.now))) }
 {
     let mut line = blank();
     let end = tell(

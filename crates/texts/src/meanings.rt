@@ -1,13 +1,12 @@
 // What refusals and verdicts mean, in words. The numbers are those of docs/FORMAT.md.
-ghost use Rattle.std.specs.Prelude.{◌≡◌, ◌<◌, ◌≤◌, length};
-ghost use Rattle.reader.specs.Walk.{Numbers};
+ghost use Rattle.std.specs.Prelude.{◌≡◌, ◌<◌, ◌≤◌, length, Ok};
 ghost use Rattle.reader.specs.Answer.{Tells, kept};
 ghost use Rattle.ascii.specs.Writing.{Wrote};
 ghost use Rattle.texts.specs.Meanings.{text_bytes, refusal_text, verdict_text, telling_of};
 
 use crate::Meaning;
 use crate::marks::{lend, word};
-use reader::Reply;
+use checks::Refusal;
 
 // Bytes that suffice for every text.
 pub const TEXT: usize = 96;
@@ -18,7 +17,7 @@ fn blank() -> [u8; 96]
     [0; TEXT]
 }
 
-// Writes the text of a refusal at the front of a line, and returns the place after it. So do the functions below.
+// By number, since every number has an answer, also one that no refusal has: the functions for C take any. Writes the text of a refusal at the front of a line, and returns the place after it. So do the functions below.
 fn early_refusal(line: &mut [u8], why: u8) -> usize
     requires { (why < 11) × (text_bytes ≤ length line.old) }
     ensures { Wrote line.old line.new 0 result (refusal_text why) }
@@ -113,9 +112,9 @@ fn told(line: &mut [u8], what: Meaning, number: u8) -> usize
 }
 
 // Writes the words of a refusal or a verdict, without a line end, at the front of a lent buffer. `TEXT` bytes suffice.
-pub fn telling(what: Meaning, number: u8, text: &mut [u8]) -> Reply
-    ensures tells { Tells result (length text.old) (Numbers (telling_of what number)) }
-    ensures text_after { text.new ≡ kept text.old (Numbers (telling_of what number)) }
+pub fn telling(what: Meaning, number: u8, text: &mut [u8]) -> Result<usize, Refusal>
+    ensures tells { Tells result (length text.old) (Ok (telling_of what number)) }
+    ensures text_after { text.new ≡ kept text.old (Ok (telling_of what number)) }
 {
     let mut line = blank();
     let end = told(&mut line, what, number);

@@ -1,5 +1,5 @@
 -- `free_hours::of_side` meets its contract: the row is filled party by party.
-use Prim.Native.Nat.{◌-◌, ◌≤◌}
+use Prim.Native.Nat.{◌≤◌}
 use Rattle.grid.specs.Fill.{FilledRow}
 use Rattle.tables.specs.View.{ticket_of, first_sixteen, settlement_of}
 use Rattle.free_hours.specs.FreeHours.{free_of}

@@ -1,5 +1,5 @@
 -- `grid::turned` meets its contract: the square is filled row by row.
-use Prim.Native.Nat.{◌-◌, ◌≤◌}
+use Prim.Native.Nat.{◌≤◌}
 use Rattle.grid.specs.Grid.{at}
 use Rattle.grid.proofs.Filling.{Part, RowPart}
 use Rattle.grid.proofs.turned.Given as goal

@@ -1,7 +1,5 @@
 -- `groups::number` meets its contract: the invariant is `Reading`: what stands at `at` is what stands k bytes later, raised by
 -- the groups so far. Assumes nothing.
-use Prim.Native.Nat.{◌-◌}
-use Rattle.groups.specs.Groups.{groups}
 use Rattle.groups.proofs.Reading.{Reading}
 use Rattle.groups.proofs.number.Given as goal
 

@@ -1,11 +1,8 @@
 -- `passing::hours_pass` meets its contract: what the chain finds of everybody's hours is what holds at every place.
 use Rattle.std.proofs.Common.{rules, ◌≡◌, ◌+◌, true, false, ℕ, Bool}
 use mathlib.Core.Path.{◌∙◌}
-use native.Mathlib.Omega.{arith}
 use Rattle.std.specs.Prelude.{is_ok}
-use lib.ListN.{get_or}
 use Rattle.std.specs.List.{between}
-use Rattle.std.proofs.lemmas.List.Edits.{get_or-between, length-between}
 use Rattle.std.proofs.lemmas.Iterator.{cases_from_all, YieldsList-from_slice}
 use borrow.Author.Tests.{tests}
 use Rattle.checks.specs.declared.ticket.Field.TheVariants.{Hours}

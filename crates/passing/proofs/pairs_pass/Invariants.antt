@@ -1,6 +1,6 @@
 -- `passing::pairs_pass` meets its contract: whether the rows that were looked at pass. Assumes nothing.
 use mathlib.Core.Path.{◌≡◌}
-use Prim.Native.Nat.{◌+◌, ◌*◌, ◌-◌, ◌≤◌}
+use Prim.Native.Nat.{◌+◌, ◌*◌, ◌≤◌}
 use Rattle.grid.specs.Every.{every}
 use Rattle.passing.specs.Passes.{row_passes}
 use Rattle.passing.proofs.pairs_pass.Given as goal

@@ -1,6 +1,6 @@
 -- `passing::row_passes` meets its contract: whether the pairs that were looked at pass. Assumes nothing.
 use mathlib.Core.Path.{◌≡◌}
-use Prim.Native.Nat.{◌+◌, ◌*◌, ◌-◌, ◌≤◌}
+use Prim.Native.Nat.{◌+◌, ◌*◌, ◌≤◌}
 use Rattle.passing.specs.Passes.{row_passes}
 use Rattle.passing.proofs.row_passes.Given as goal
 

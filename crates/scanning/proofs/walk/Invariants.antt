@@ -1,6 +1,5 @@
 -- `scanning::walk` meets its contract: the invariant is `Running`: what the whole run comes to is what it comes to from here. Assumes
 -- nothing.
-use Prim.Native.Nat.{◌-◌}
 use Rattle.scanning.proofs.Running.{Running}
 use Rattle.scanning.proofs.walk.Given as goal
 

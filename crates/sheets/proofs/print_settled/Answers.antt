@@ -2,8 +2,8 @@
 use Rattle.sheets.proofs.PrintLaws.{settle_not_refused}
 use Rattle.sheets.proofs.print_settled.Goals as goal
 
-pub returns-in-Refused : goal.returns-in-Refused
-returns-in-Refused c = let z = c.no_bytes-settlement in
+pub returns-in-Err : goal.returns-in-Err
+returns-in-Err c = let z = c.no_bytes-settlement in
     settle_not_refused c.args.ticket.now _ z.result _ _
     c.requires z.ensures
-    c.settle-reply.ensures _ c.in-Refused.is
+    c.settle-reply.ensures _ c.in-Err.is

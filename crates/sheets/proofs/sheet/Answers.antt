@@ -1,6 +1,6 @@
 -- `sheets::sheet` meets its contract: the ticket's bytes are refused, or unpacked into numbers that are settled.
+use Rattle.std.specs.Prelude.{Ok}
 use mathlib.Core.Path.{◌≡◌, sym, ◌∙◌}
-use Rattle.reader.specs.Walk.{Numbers}
 use Rattle.reader.specs.Answer.{unpacked}
 use Rattle.marker.proofs.Marking.{unpacked_is}
 use Rattle.sheets.proofs.PrintLaws.{refused_sheeted, unpacked_sheeted}
@@ -8,19 +8,19 @@ use Rattle.sheets.proofs.sheet.Goals as goal
 
 pub sheet_settled-requires : goal.sheet_settled-requires
 sheet_settled-requires c = (let h0 : unpacked c.args.ticket.now
-    ≡ Numbers c.front.result.now = let u = c.unpack-reply in
-    unpacked_is _ _ _ _ (sym c.in-Done.is ∙ u.ensures.tells.reply)
+    ≡ Ok c.front.result.now = let u = c.unpack-reply in
+    unpacked_is _ _ _ _ (sym c.in-Ok.is ∙ u.ensures.tells.reply)
     (rw u.ensures.list_after at c.front.ensures) in h0)
 
-pub returns-in-Refused : goal.returns-in-Refused
-returns-in-Refused c = let z = c.ticket_list-numbers in
+pub returns-in-Err : goal.returns-in-Err
+returns-in-Err c = let z = c.ticket_list-numbers in
     refused_sheeted _ z.result _ _ _ _ z.ensures.1
-    (sym c.in-Refused.is ∙
+    (sym c.in-Err.is ∙
     c.unpack-reply.ensures.tells.reply)
     c.sheet_refused.ensures
 
-pub returns-in-Done : goal.returns-in-Done
-returns-in-Done c = unpacked_sheeted _ _ _ _ _ ((let h0 : unpacked c.args.ticket.now
-    ≡ Numbers c.front.result.now = let u = c.unpack-reply in
-    unpacked_is _ _ _ _ (sym c.in-Done.is ∙ u.ensures.tells.reply)
+pub returns-in-Ok : goal.returns-in-Ok
+returns-in-Ok c = unpacked_sheeted _ _ _ _ _ ((let h0 : unpacked c.args.ticket.now
+    ≡ Ok c.front.result.now = let u = c.unpack-reply in
+    unpacked_is _ _ _ _ (sym c.in-Ok.is ∙ u.ensures.tells.reply)
     (rw u.ensures.list_after at c.front.ensures) in h0)) c.sheet_settled.ensures

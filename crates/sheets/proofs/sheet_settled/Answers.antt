@@ -1,9 +1,9 @@
 -- `sheets::sheet_settled` meets its contract: too little room is refused, else the printed page is copied.
+use Rattle.std.specs.Prelude.{Ok}
 use mathlib.Core.Path.{◌≡◌}
 use Prim.Native.Nat.{◌*◌, ◌≤◌}
 use native.Mathlib.Omega.{arith}
 use lib.ListN.{length}
-use Rattle.reader.specs.Walk.{Numbers}
 use Rattle.reader.proofs.Facts.{unpacked_shape}
 use Rattle.tables.specs.View.{growers_of, pilots_of}
 use Rattle.sheets.specs.Sheeted.{room_for_sheet}
@@ -13,7 +13,7 @@ use Rattle.sheets.proofs.sheet_settled.Goals as goal
 pub copy-requires : goal.copy-requires
 copy-requires c = end_within c.print_settled-end.ensures c.blank-page.ensures
     (room_in_page c.args.ticket.now _ c.requires) _
-    ((let h0 : room_for_sheet (Numbers c.args.numbers.now)
+    ((let h0 : room_for_sheet (Ok c.args.numbers.now)
     ≤ length c.args.text.now = omega (
       arith,
       (let h1 : c.pairs-pairs.result
@@ -27,7 +27,7 @@ copy-requires c = end_within c.print_settled-end.ensures c.blank-page.ensures
 pub returns : goal.returns
 returns c = sheeted_copied c.print_settled-end.ensures
     c.blank-page.ensures
-    (room_in_page c.args.ticket.now _ c.requires) _ _ ((let h0 : room_for_sheet (Numbers c.args.numbers.now)
+    (room_in_page c.args.ticket.now _ c.requires) _ _ ((let h0 : room_for_sheet (Ok c.args.numbers.now)
     ≤ length c.args.text.now = omega (
       arith,
       (let h1 : c.pairs-pairs.result

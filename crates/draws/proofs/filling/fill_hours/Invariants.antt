@@ -1,5 +1,4 @@
 -- `draws::filling::fill_hours` meets its contract: what is left to store makes the whole.
-use Prim.Native.Nat.{◌-◌}
 use Rattle.draws.proofs.Storing.{HoursLeft}
 use Rattle.draws.proofs.filling.fill_hours.Given as goal
 

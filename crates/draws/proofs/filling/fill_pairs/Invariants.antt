@@ -1,5 +1,4 @@
 -- `draws::filling::fill_pairs` meets its contract: what is left to store makes the whole.
-use Prim.Native.Nat.{◌-◌}
 use Rattle.draws.proofs.Storing.{PairsLeft}
 use Rattle.checks.specs.Hours.{none_of}
 use Rattle.draws.proofs.filling.fill_pairs.Given as goal

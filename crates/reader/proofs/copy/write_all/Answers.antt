@@ -1,6 +1,5 @@
 -- `reader::copy::write_all` meets its contract: the invariant is `Packing`: the bytes that are left, written from here on, make the
 -- whole. Assumes nothing.
-use mathlib.Core.Path.{refl}
 use native.Mathlib.Omega.{arith}
 use Rattle.reader.proofs.Packing.{packing_turns}
 use Rattle.reader.proofs.copy.write_all.Goals as goal

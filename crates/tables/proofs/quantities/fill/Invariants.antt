@@ -1,5 +1,5 @@
 -- `tables::fill` meets its contract: the square is filled row by row, and the place goes on by as many numbers as each pair has.
-use Prim.Native.Nat.{◌+◌, ◌*◌, ◌-◌, ◌≤◌}
+use Prim.Native.Nat.{◌+◌, ◌*◌, ◌≤◌}
 use mathlib.Core.Path.{◌≡◌}
 use Rattle.grid.proofs.Filling.{Part, RowPart}
 use Rattle.tables.proofs.Filling.{spread_over}

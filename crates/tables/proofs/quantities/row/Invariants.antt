@@ -1,5 +1,5 @@
 -- `tables::row` meets its contract: the row is filled number by number.
-use Prim.Native.Nat.{◌+◌, ◌-◌, ◌≤◌}
+use Prim.Native.Nat.{◌+◌, ◌≤◌}
 use lib.ListN.{get_or}
 use Rattle.grid.specs.Fill.{FilledRow}
 use Rattle.tables.proofs.quantities.row.Given as goal
