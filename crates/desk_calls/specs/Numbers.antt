@@ -1,29 +1,29 @@
 -- The number that a word spells in decimal digits.
 -- Assumes nothing.
-use Rattle.std.specs.Prelude.{ℕ, ◌+◌, ◌-◌, ◌*◌, min, Bool, cond, ◌&&◌, List, [], ◌∷◌, leb}
-use Rattle.desk_calls.specs.Words.{word}
-
--- stands for what is no number of 16 bits
-abbrev pub no_number : ℕ
-no_number = 65536
+use Rattle.std.specs.Prelude.{ℕ, ◌+◌, ◌-◌, ◌*◌, Bool, Option, Some, None, cond, ◌&&◌, List, [], ◌∷◌, leb, ltb}
 
 -- 48 to 57 are the digits
 abbrev pub is_digit : ℕ → Bool
 is_digit b = leb 48 b && leb b 57
 
--- A number with one digit more. What is no number stays none, since ten times as much is too large.
-abbrev pub with_digit : ℕ → ℕ → ℕ
-with_digit value b = cond (is_digit b) (min (10 * value + (b - 48)) no_number) no_number
+-- a number, if it has 16 bits
+abbrev pub narrowed : ℕ → Option ℕ
+narrowed x = cond (ltb x 65536) (Some x) None
+
+-- a number with one digit more
+abbrev pub with_digit : ℕ → ℕ → Option ℕ
+with_digit value b = cond (is_digit b) (narrowed (10 * value + (b - 48))) None
+
+-- what goes on after a digit, if it was one
+abbrev pub onward : Option ℕ → (ℕ → Option ℕ) → Option ℕ
+onward None go = None
+onward (Some value) go = go value
 
 -- digits after a number
-unfoldable pub with_digits : ℕ → List ℕ → ℕ
-with_digits value [] = value
-with_digits value (b ∷ rest) = with_digits (with_digit value b) rest
+unfoldable pub with_digits : ℕ → List ℕ → Option ℕ
+with_digits value [] = Some value
+with_digits value (b ∷ rest) = onward (with_digit value b) (λ more. with_digits more rest)
 
-abbrev pub number_of : List ℕ → ℕ
-number_of [] = no_number
+abbrev pub number_of : List ℕ → Option ℕ
+number_of [] = None
 number_of (b ∷ rest) = with_digits 0 (b ∷ rest)
-
--- the number that the word at a place of a line spells
-abbrev pub number_at : List ℕ → ℕ → ℕ
-number_at line place = number_of (word line place)

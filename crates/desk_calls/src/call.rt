@@ -1,46 +1,34 @@
 // What a line asks for: its first word says which call it is, and that says how many words it has. specs/Calls.antt has the same.
-ghost use Rattle.std.specs.Prelude.{◌≡◌, ◌&&◌, ◌<◌};
-ghost use Rattle.desk_calls.specs.declared.call.Call.TheVariants.{NoCall};
-ghost use Rattle.desk_calls.specs.Words.{same};
-ghost use Rattle.desk_calls.specs.Calls.{is_last, ending, is_number, are_numbers, narrowed};
-ghost use Rattle.desk_calls.specs.Calls.{hours_of, hours_if, hours_call, pair_if, pair_call, plain_call, named_call, call_of};
+ghost use Rattle.std.specs.Prelude.{◌≡◌, ◌<◌};
+ghost use Rattle.desk_calls.specs.Calls.{is_last, ending, numeral_at, hours_call, pair_call, plain_call, named_call, call_of};
 
-use crate::number::{NONE, number_at};
+use crate::number::number;
 use crate::split::word;
+use offers::Terms;
+use tables::Side;
 
 // The calls. The names of the files to save to are words of the line.
 #[derive(Clone, Copy)]
 pub enum Call {
-    Nothing,
-    GrowerHours {
-        grower: u16,
-        hours: u16,
-    },
-    PilotHours {
-        pilot: u16,
+    Hours {
+        side: Side,
+        party: u16,
         hours: u16,
     },
     Pair {
         grower: u16,
         pilot: u16,
-        tariff_cap: u16,
-        tariff_gain: u16,
-        tariff_pay: u16,
-        free_cap: u16,
-        joint_gain: u16,
+        terms: Terms,
     },
     Sheet,
     Free,
     Ticket,
     Save,
     Help,
-    NoCall {
-        fault: Fault,
-    },
 }
 
 // Why a line is no call.
-#[derive(Clone, Copy)]
+#[derive(Clone, Copy, Debug, PartialEq, Eq)]
 pub enum Fault {
     NoSuchCall,
     WordCount,
@@ -48,187 +36,119 @@ pub enum Fault {
     NoNumber,
 }
 
-fn no_call(fault: Fault) -> Call
-    ensures { result ≡ NoCall fault }
-{
-    Call::NoCall { fault }
-}
-
-fn same(a: &[u8], b: &[u8]) -> bool
-    ensures { result ≡ same a.now b.now }
-{
-    check::same(a, b)
-}
-
 // Whether the word at a place is the last of its line.
 fn is_last(line: &[u8], place: usize) -> bool
     requires { place < 8 }
     ensures { result ≡ is_last line.now place }
 {
-    !same(word(line, place), b"") && same(word(line, place + 1), b"")
+    word(line, place) != b"".as_slice() && word(line, place + 1) == b"".as_slice()
 }
 
-// A call, if it is.
-fn ending(line: &[u8], place: usize, call: Call) -> Call
+// A call, if the word at a place is the last of its line.
+fn ending(line: &[u8], place: usize, call: Result<Call, Fault>) -> Result<Call, Fault>
     requires { place < 8 }
     ensures { result ≡ ending line.now place call }
 {
     if is_last(line, place) {
         call
     } else {
-        no_call(Fault::WordCount)
+        Err(Fault::WordCount)
     }
 }
 
-fn is_number(x: usize) -> bool
-    ensures { result ≡ is_number x }
+// The number that a word of a line spells.
+fn number_at(line: &[u8], place: usize) -> Result<u16, Fault>
+    ensures { result ≡ numeral_at line.now place }
 {
-    x < NONE
-}
-
-fn both(a: bool, b: bool) -> bool
-    ensures { result ≡ (a && b) }
-{
-    a && b
-}
-
-fn are_numbers(x: usize, y: usize) -> bool
-    ensures { result ≡ are_numbers x y }
-{
-    both(is_number(x), is_number(y))
-}
-
-// A number at its width of 16 bits.
-fn narrow(x: usize) -> u16
-    ensures { result ≡ narrowed x }
-{
-    if x < NONE { x as u16 } else { 0 }
-}
-
-fn hours_of(of_pilot: bool, party: u16, hours: u16) -> Call
-    ensures { result ≡ hours_of of_pilot party hours }
-{
-    if of_pilot {
-        Call::PilotHours {
-            pilot: party,
-            hours,
-        }
-    } else {
-        Call::GrowerHours {
-            grower: party,
-            hours,
-        }
+    match number(word(line, place)) {
+        Some(value) => Ok(value),
+        None => Err(Fault::NoNumber),
     }
 }
 
-// Somebody's hours, if both are numbers.
-fn hours_if(of_pilot: bool, party: usize, hours: usize) -> Call
-    ensures { result ≡ hours_if of_pilot party hours }
+// Somebody's hours.
+fn hours_call(line: &[u8], side: Side) -> Result<Call, Fault>
+    ensures { result ≡ hours_call line.now side }
 {
-    if are_numbers(party, hours) {
-        hours_of(of_pilot, narrow(party), narrow(hours))
-    } else {
-        no_call(Fault::NoNumber)
+    if word(line, 2) != b"hours".as_slice() {
+        return Err(Fault::NoHours);
     }
+    let party = number_at(line, 1)?;
+    let hours = number_at(line, 3)?;
+    Ok(Call::Hours { side, party, hours })
 }
 
-fn hours_call(line: &[u8], of_pilot: bool) -> Call
-    ensures { result ≡ hours_call line.now of_pilot }
-{
-    if same(word(line, 2), b"hours") {
-        hours_if(of_pilot, number_at(line, 1), number_at(line, 3))
-    } else {
-        no_call(Fault::NoHours)
-    }
-}
-
-// A pair and its terms, if all are numbers.
-fn pair_if(
-    grower: usize,
-    pilot: usize,
-    tariff_cap: usize,
-    tariff_gain: usize,
-    tariff_pay: usize,
-    free_cap: usize,
-    joint_gain: usize,
-) -> Call
-    ensures { result ≡ pair_if grower pilot tariff_cap tariff_gain tariff_pay free_cap joint_gain }
-{
-    let pair = are_numbers(grower, pilot);
-    let tariff = both(is_number(tariff_cap), are_numbers(tariff_gain, tariff_pay));
-    let free = are_numbers(free_cap, joint_gain);
-    if both(pair, both(tariff, free)) {
-        Call::Pair {
-            grower: narrow(grower),
-            pilot: narrow(pilot),
-            tariff_cap: narrow(tariff_cap),
-            tariff_gain: narrow(tariff_gain),
-            tariff_pay: narrow(tariff_pay),
-            free_cap: narrow(free_cap),
-            joint_gain: narrow(joint_gain),
-        }
-    } else {
-        no_call(Fault::NoNumber)
-    }
-}
-
-fn pair_call(line: &[u8]) -> Call
+// A pair and its terms.
+fn pair_call(line: &[u8]) -> Result<Call, Fault>
     ensures { result ≡ pair_call line.now }
 {
-    pair_if(
-        number_at(line, 1),
-        number_at(line, 2),
-        number_at(line, 3),
-        number_at(line, 4),
-        number_at(line, 5),
-        number_at(line, 6),
-        number_at(line, 7),
-    )
+    let grower = number_at(line, 1)?;
+    let pilot = number_at(line, 2)?;
+    let tariff_cap = number_at(line, 3)?;
+    let tariff_gain = number_at(line, 4)?;
+    let tariff_pay = number_at(line, 5)?;
+    let free_cap = number_at(line, 6)?;
+    let joint_gain = number_at(line, 7)?;
+    let terms = Terms {
+        tariff_cap,
+        tariff_gain,
+        tariff_pay,
+        free_cap,
+        joint_gain,
+    };
+    Ok(Call::Pair {
+        grower,
+        pilot,
+        terms,
+    })
 }
 
 // The calls that change nothing, by their first word.
-fn plain_call(name: &[u8], line: &[u8]) -> Call
+fn plain_call(name: &[u8], line: &[u8]) -> Result<Call, Fault>
     ensures { result ≡ plain_call name.now line.now }
 {
-    if same(name, b"sheet") {
-        return ending(line, 0, Call::Sheet);
+    if name == b"sheet".as_slice() {
+        return ending(line, 0, Ok(Call::Sheet));
     }
-    if same(name, b"free") {
-        return ending(line, 0, Call::Free);
+    if name == b"free".as_slice() {
+        return ending(line, 0, Ok(Call::Free));
     }
-    if same(name, b"ticket") {
-        return ending(line, 0, Call::Ticket);
+    if name == b"ticket".as_slice() {
+        return ending(line, 0, Ok(Call::Ticket));
     }
-    if same(name, b"save") {
-        return ending(line, 2, Call::Save);
+    if name == b"save".as_slice() {
+        return ending(line, 2, Ok(Call::Save));
     }
-    if same(name, b"help") {
-        return ending(line, 0, Call::Help);
+    if name == b"help".as_slice() {
+        return ending(line, 0, Ok(Call::Help));
     }
-    no_call(Fault::NoSuchCall)
+    Err(Fault::NoSuchCall)
 }
 
 // Any call, by its first word.
-fn named_call(name: &[u8], line: &[u8]) -> Call
+fn named_call(name: &[u8], line: &[u8]) -> Result<Call, Fault>
     ensures { result ≡ named_call name.now line.now }
 {
-    if same(name, b"") {
-        return Call::Nothing;
+    if name == b"grower".as_slice() {
+        return ending(line, 3, hours_call(line, Side::Growers));
     }
-    if same(name, b"grower") {
-        return ending(line, 3, hours_call(line, false));
+    if name == b"pilot".as_slice() {
+        return ending(line, 3, hours_call(line, Side::Pilots));
     }
-    if same(name, b"pilot") {
-        return ending(line, 3, hours_call(line, true));
-    }
-    if same(name, b"pair") {
+    if name == b"pair".as_slice() {
         return ending(line, 7, pair_call(line));
     }
     plain_call(name, line)
 }
 
-pub fn call_of(line: &[u8]) -> Call
+// The call of a line, or none of a line without words.
+pub fn call_of(line: &[u8]) -> Result<Option<Call>, Fault>
     ensures { result ≡ call_of line.now }
 {
-    named_call(word(line, 0), line)
+    let name = word(line, 0);
+    if name == b"".as_slice() {
+        return Ok(None);
+    }
+    let call = named_call(name, line)?;
+    Ok(Some(call))
 }

@@ -1,6 +1,6 @@
 // The words of a line, which blanks part: spaces, tabs, and the carriage returns of lines that end in two bytes.
 ghost use Rattle.std.specs.Prelude.{◌≡◌, ◌≤◌, length};
-ghost use Rattle.desk_calls.specs.Words.{blank, is_sought, first_sought, blanks, letters, from_word, first_word, after_word, word};
+ghost use Rattle.desk_calls.specs.Words.{blank, blanks, letters, from_word, first_word, after_word, word};
 
 fn is_blank(b: u8) -> bool
     ensures { result ≡ blank b }
@@ -8,36 +8,19 @@ fn is_blank(b: u8) -> bool
     b == 32 || (b == 9 || b == 13)
 }
 
-// Whether a byte is what is sought: a blank, or another byte.
-fn is_sought(blanks: bool, b: u8) -> bool
-    ensures { result ≡ is_sought blanks b }
-{
-    if blanks { is_blank(b) } else { !is_blank(b) }
-}
-
-// How many bytes stand before the first that is sought.
-fn first_sought(blanks: bool, text: &[u8]) -> usize
-    ensures { (result ≡ first_sought blanks text.now) × (result ≤ length text.now) }
-{
-    for k in 0..text.len() {
-        if is_sought(blanks, text[k]) {
-            return k;
-        }
-    }
-    text.len()
-}
-
 // How many blanks a text begins with, and how many other bytes.
 fn blanks(text: &[u8]) -> usize
     ensures { (result ≡ blanks text.now) × (result ≤ length text.now) }
 {
-    first_sought(false, text)
+    text.iter()
+        .position(|&b| !is_blank(b))
+        .unwrap_or(text.len())
 }
 
 fn letters(text: &[u8]) -> usize
     ensures { (result ≡ letters text.now) × (result ≤ length text.now) }
 {
-    first_sought(true, text)
+    text.iter().position(|&b| is_blank(b)).unwrap_or(text.len())
 }
 
 // What stands after the blanks that a text begins with.
@@ -72,8 +55,7 @@ pub fn word<'a>(line: &'a [u8], place: usize) -> &'a [u8]
 {
     let mut rest = line;
     for _k in 0..place {
-        let later = after_word(rest);
-        rest = later;
+        rest = after_word(rest);
     }
     first_word(rest)
 }

@@ -6,7 +6,7 @@ use Rattle.desk_calls.proofs.split.word.Goals as goal
 
 pub loop-k-preserved : goal.loop-k-preserved
 loop-k-preserved c = let turn = c.loop-k in
-    (omega arith, word_next _ _ _ turn._k (omega arith) c.after_word-later.ensures ∙ turn.invariant.1)
+    (omega arith, word_next _ _ _ turn._k (omega arith) c.after_word-rest.ensures ∙ turn.invariant.1)
 
 pub returns : goal.returns
 returns c = let last = c.loop-k in
