@@ -4,8 +4,9 @@ use checks::Refusal;
 use desk_calls::{Call, Fault, call_of, word};
 use files::{Told, message, print};
 use layouts::Layout;
-use open_market::{Market, Terms};
+use open_market::Market;
 use printing::{Document, FreeHours, Refused, Sheet};
+use tables::Side;
 use words::Reason;
 
 // The market after a call that sets something. Why it was refused is told after the answer.
@@ -102,47 +103,48 @@ fn show(rt: &HostRuntime, market: Market, line: &[u8], call: Call) -> Result<(),
         Call::Ticket => show_ticket(rt, market),
         Call::Save => show_saved(rt, market, line),
         Call::Help => print(rt, &HELP),
-        Call::NoCall { fault } => refuse_line(rt, words_of(fault)),
         _ => Ok(()),
     }
 }
 
 // The market after a line.
 pub(crate) fn answer(rt: &HostRuntime, market: Market, line: &[u8]) -> Result<Market, Told> {
-    let call = call_of(line);
+    let call = match call_of(line) {
+        Ok(Some(call)) => call,
+        Ok(None) => return Ok(market),
+        Err(fault) => {
+            refuse_line(rt, words_of(fault))?;
+            return Ok(market);
+        }
+    };
     match call {
-        Call::GrowerHours { grower, hours } => set(
+        Call::Hours {
+            side: Side::Growers,
+            party,
+            hours,
+        } => set(
             rt,
             market,
-            open_market::set_grower_hours(market, grower, hours),
+            open_market::set_grower_hours(market, party, hours),
         ),
-        Call::PilotHours { pilot, hours } => set(
+        Call::Hours {
+            side: Side::Pilots,
+            party,
+            hours,
+        } => set(
             rt,
             market,
-            open_market::set_pilot_hours(market, pilot, hours),
+            open_market::set_pilot_hours(market, party, hours),
         ),
         Call::Pair {
             grower,
             pilot,
-            tariff_cap,
-            tariff_gain,
-            tariff_pay,
-            free_cap,
-            joint_gain,
-        } => {
-            let terms = Terms {
-                tariff_cap,
-                tariff_gain,
-                tariff_pay,
-                free_cap,
-                joint_gain,
-            };
-            set(
-                rt,
-                market,
-                open_market::set_pair(market, grower, pilot, terms),
-            )
-        }
+            terms,
+        } => set(
+            rt,
+            market,
+            open_market::set_pair(market, grower, pilot, terms),
+        ),
         _ => {
             show(rt, market, line, call)?;
             Ok(market)
