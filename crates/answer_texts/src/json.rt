@@ -149,7 +149,7 @@ impl<'a> Text for MarkedObject<'a> {
     }
 }
 
-// A document's numbers, by what they are.
+// A document's numbers, by what they are. Pairs go by the numbers of the two, which are printed.
 #[derive(Clone, Copy)]
 pub struct DocumentObject<'a> {
     pub list: &'a [u16],

@@ -58,7 +58,7 @@ impl<'a> Text for Party<'a> {
     }
 }
 
-// How wide a column is that has a heading of so many letters and the names of some lines.
+// How wide a column is that has a heading of so many letters and the names of some lines. By number: a line is missing where there is no name.
 pub(crate) fn column(names: &[u8], from: usize, end: usize, heading: usize) -> usize {
     (from..end).fold(heading, |wide, k| wide.max(width(line_of(names, k))))
 }

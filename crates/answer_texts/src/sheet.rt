@@ -49,7 +49,7 @@ impl fmt::Display for Flight {
     }
 }
 
-// The sheet of a settled ticket as an object, with the count of the marker.
+// The sheet of a settled ticket as an object, with the count of the marker. By the numbers of the two: they are printed.
 #[derive(Clone, Copy)]
 pub struct SheetObject<'a> {
     pub settled: Settled<'a>,

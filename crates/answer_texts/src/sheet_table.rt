@@ -117,7 +117,7 @@ impl<'a> Table<'a> {
         }
     }
 
-    // A line for each pair that flies.
+    // A line for each pair that flies. By the numbers of the two: a pair is looked up in both lists, and a party without a name is a number.
     fn write_pairs<W: Write>(&self, columns: Columns, out: &mut W) -> Result<()> {
         for i in 0..self.settled.parties(Side::Growers) {
             for j in 0..self.settled.parties(Side::Pilots) {

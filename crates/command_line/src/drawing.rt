@@ -8,6 +8,7 @@ use std::io;
 use std::io::Write;
 
 // Which word is no number.
+#[derive(Clone, Copy)]
 struct NoNumber<'a> {
     word: &'a [u8],
 }

@@ -250,7 +250,7 @@ fn shows_model(asked: Asked, status: Status) -> bool {
     asked.model || (asked.operands == 2 && !asked.json && status != Status::Failed)
 }
 
-// The settlements are marked only if the ticket is one.
+// The settlements are marked only if the ticket is one. By number: an operand is asked for by its place.
 pub(crate) fn mark(rt: &HostRuntime, asked: Asked) -> Result<Status, Told> {
     let mut file = files::ticket_bytes();
     let ticket = read_operand(rt, asked, 0, &mut file)?;

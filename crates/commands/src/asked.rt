@@ -56,7 +56,7 @@ pub(crate) fn command_name(command: Command) -> &'static str {
     }
 }
 
-// What is asked of a command.
+// What is asked of a command. Each flag is an option or a dash that may or may not stand among the arguments.
 #[derive(Clone, Copy)]
 pub struct Asked {
     pub command: Command,

@@ -9,7 +9,6 @@ mod printed;
 mod reading;
 mod reasons;
 mod room;
-mod streams;
 mod writing;
 
 pub use messages::{About, fail, message};
@@ -17,7 +16,4 @@ pub use printed::{Text, Told, print};
 pub use reading::{fill, is_dash, read};
 pub use reasons::tell;
 pub use room::{settlement_bytes, ticket_bytes};
-pub use streams::{
-    Standard, Stream, complain, fill_in, finish, flush, message_of, put, put_number, to,
-};
 pub use writing::{write, write_named};

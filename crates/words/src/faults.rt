@@ -90,6 +90,7 @@ fn add(found: &mut Vec<Verdict>, fault: Option<Verdict>) -> Result<(), AllocErro
     Ok(())
 }
 
+// By the numbers of the two: a pair is looked up in both lists.
 pub fn faults_of(alloc: Global, settled: Settled) -> Result<Vec<Verdict>, AllocError> {
     let growers = settled.parties(Side::Growers);
     let pilots = settled.parties(Side::Pilots);
