@@ -33,9 +33,9 @@ opened_lengths (Ok xs) market s =
     let same : s.0 ≡ market = cc in
     subst Lengths same (record {
       ticket_long = ap length s.2.ticket_held ∙ length-sets (replicate {A = ℕ} 1315 0) 0 xs ∙ length-replicate {A = ℕ} 1315 0;
-      settlement_long = s.2.market.settled.long;
-      growers_long = s.2.market.free.growers_in.row.long;
-      pilots_long = s.2.market.free.pilots_in.row.long;
+      settlement_long = s.2.settled.settled.long;
+      growers_long = s.2.settled.free.growers_in.row.long;
+      pilots_long = s.2.settled.free.pilots_in.row.long;
     })
 
 pub open_small : (file lent after : List ℕ) (r : Result ℕ Refusal) → OpenedIn file lent after r → Small r

@@ -2,7 +2,7 @@
 -- Assumes nothing.
 use Rattle.std.specs.Prelude.{Result, Ok, Err, IsErrAnd}
 use Rattle.checks.specs.declared.refusals.Refusal.{Refusal}
-use Prim.Native.Nat.{ℕ}
+use Prim.Native.Nat.{ℕ, ◌≤◌}
 use mathlib.Core.Path.{◌≡◌, refl, ap, ap₂, ◌∙◌}
 use mathlib.Core.List.{List}
 use native.Mathlib.Omega.{arith}
@@ -12,6 +12,7 @@ use lib.Seq.{sets}
 use Rattle.reader.specs.Answer.{unpacked, reply, kept}
 use Rattle.reader.proofs.Facts.{unpacked_shape, reply_refused, reply_done}
 use Rattle.ticket_calls.specs.Calls.{Call, refusal_of, after}
+use Rattle.ticket_calls.proofs.RefusalLaws.{after_accepted}
 use Rattle.open_market.specs.declared.held.Market.{Market}
 use Rattle.open_market.specs.Markets.{Settled, Opened, Called}
 
@@ -23,7 +24,7 @@ refused_called c market w r e f = rw e f
 pub accepted_called : (c : Call) (market : Market) (ticket : List ℕ) (next : Market) (r : Result Market Refusal) →
     refusal_of c market.ticket ≡ Ok tt → ticket ≡ after c market.ticket → Settled ticket next → r ≡ Ok next → Called c market r
 accepted_called c market ticket next r e f s g =
-    rw e (next, g, record { ticket_held = s.ticket_held ∙ f; market = s.market })
+    rw e (next, g, record { ticket_held = s.ticket_held ∙ f ∙ after_accepted c market.ticket e; settled = s.settled })
 
 -- Markets that hold the same are the same.
 pub same_market : (m m' : Market) → m.ticket ≡ m'.ticket → m.settlement ≡ m'.settlement →
@@ -55,4 +56,4 @@ module _ (file zeros ticket : List ℕ) (e : zeros ≡ replicate 1315 0) (long :
       let few : length xs ≤ length zeros = omega (arith, (unpacked_shape file xs d.1).few, long) in
       let f : ticket ≡ sets (replicate 1315 0) 0 xs =
       left ∙ ap (kept zeros) d.1 ∙ rw (le-leb (length xs) (length zeros) few) (ap (λ (z : List ℕ). sets z 0 xs) e) in
-      rw d.1 (market, g, record { ticket_held = s.ticket_held ∙ f; market = s.market })
+      rw d.1 (market, g, record { ticket_held = s.ticket_held ∙ f; settled = s.settled })

@@ -71,8 +71,8 @@ call-ticket c market r called = go (refusal_of c market.ticket) refl called
     go (Err w) e a = rw a (sym (after_refused c market.ticket w e))
 
 -- Calls were done.
-pub record Done (market : Market) (cs : List Call) (refusal : Checked) (last : Market) : Type 0 where
-  pub refusal : refusal ≡ first_refusal cs market.ticket
+pub record Done (market : Market) (cs : List Call) (told : Checked) (last : Market) : Type 0 where
+  pub refusal : told ≡ first_refusal cs market.ticket
   pub ticket : last.ticket ≡ after_all cs market.ticket
   pub reached : Reached market cs last
 
@@ -81,10 +81,10 @@ done_last : (market : Market) (cs : List Call) (c : Call) (before : Checked) (mi
 done_last market cs c before mid refusal last d n = record {
   refusal = n.refusal ∙ rw (d.refusal, d.ticket) (sym (refusal_last cs c market.ticket));
   ticket =
-      ap (λ (m : Market). m.ticket) n.market
+      ap (λ (m : Market). m.ticket) n.after
       ∙ call-ticket c mid n.answer n.called
       ∙ rw d.ticket (sym (after_last cs c market.ticket));
-  reached = reached_last cs c market mid n.answer last d.reached n.called n.market;
+  reached = reached_last cs c market mid n.answer last d.reached n.called n.after;
 }
 
 -- The first calls of a list.
@@ -131,23 +131,24 @@ module _ (c : Call) (before : Checked) (market : Market) (r : Result Market Refu
     answer = r;
     called = called;
     refusal = go (refusal_of c market.ticket) refl called;
-    market = rw e;
+    after = rw e;
   }
     where
       go : (w : Checked) → refusal_of c market.ticket ≡ w → Answered w (after c market.ticket) r →
           before ≡ first before (refusal_of c market.ticket)
       go (Ok _) f a = rw f (sym (first-none before))
-      go (Err w) f a = never (sym e ∙ a)
+      go (Err w) f a = let g : Ok next ≡ Err w = sym e ∙ a in never cc
 
   pub next_refused : (w : Refusal) (refusal : Checked) → r ≡ Err w → refusal ≡ first before (Err w) → Next c before market refusal market
   next_refused w refusal e f = record {
     answer = r;
     called = called;
     refusal = f ∙ go (refusal_of c market.ticket) refl called;
-    market = rw e;
+    after = rw e;
   }
     where
       go : (v : Checked) → refusal_of c market.ticket ≡ v → Answered v (after c market.ticket) r →
           first before (Err w) ≡ first before (refusal_of c market.ticket)
-      go (Ok _) g a = never (sym e ∙ a.1)
-      go (Err v) g a = let h : Err w ≡ Err v = sym e ∙ a in rw g (ap (first before) h)
+      go (Ok _) g a = let h : Err w ≡ Ok a.0 = sym e ∙ a.1 in never cc
+      go (Err v) g a = let h : ◌≡◌ {A = Result Market Refusal} (Err w) (Err v) = sym e ∙ a in
+          let same : w ≡ v = cc in rw g (ap (λ (u : Refusal). first before (Err u)) same)

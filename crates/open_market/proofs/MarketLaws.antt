@@ -49,7 +49,7 @@ call_holding c xs market r holding called = go (refusal_of c market.ticket) refl
     go : (w : Checked) → refusal_of c market.ticket ≡ w → Answered w (after c market.ticket) r →
         Holding (after c xs) (market_after r market)
     go (Ok _) e a = subst (λ (q : Result Market Refusal). Holding (after c xs) (market_after q market)) (sym a.1)
-        (record { ticket = subst (InFront (after c xs)) (sym a.2.ticket_held) front; settled = a.2.market })
+        (record { ticket = subst (InFront (after c xs)) (sym a.2.ticket_held) front; settled = a.2.settled })
     go (Err w) e a = subst (λ (q : Result Market Refusal). Holding (after c xs) (market_after q market)) (sym a)
         (record { ticket = subst (InFront (after c xs)) (after_refused c market.ticket w e) front; settled = holding.settled })
 
@@ -68,7 +68,7 @@ opened_holding file xs zeros market z e opened =
     let long : length zeros ≡ 1315 = ap length z ∙ length-replicate {A = ℕ} 1315 0 in
     let t : o.0.ticket ≡ sets zeros 0 xs = o.2.ticket_held ∙ ap (λ (l : List ℕ). sets l 0 xs) (sym z) in
     subst (Holding xs) same
-    (record { ticket = written_in_front xs zeros o.0.ticket (unpacked_passing file xs e) long t; settled = o.2.market })
+    (record { ticket = written_in_front xs zeros o.0.ticket (unpacked_passing file xs e) long t; settled = o.2.settled })
 
 settlement_itself : (t : Ticket) (x : Settlement) → SameSettlement t x x
 settlement_itself t x = record { hours = λ d i j hi hj. refl; pay = λ i j hi hj. refl }

@@ -27,7 +27,7 @@ pub record IsSettled (market : Market) : Type 0 where
 -- It holds that ticket, and is settled.
 pub record Settled (ticket : List ℕ) (market : Market) : Type 0 where
   pub ticket_held : market.ticket ≡ ticket
-  pub market : IsSettled market
+  pub settled : IsSettled market
 
 -- The answer by a refusal, or none, and the ticket after it: why, or that ticket, settled.
 abbrev pub Answered : Checked → List ℕ → Result Market Refusal → Type 0
@@ -52,11 +52,11 @@ market_after (Ok next) market = next
 market_after (Err w) market = market
 
 -- One call more, after others that came to a refusal, or to none, and to a market: the first refusal stays.
-pub record Next (c : Call) (before : Checked) (market : Market) (refusal : Checked) (next : Market) : Type 0 where
+pub record Next (c : Call) (before : Checked) (market : Market) (told : Checked) (next : Market) : Type 0 where
   pub answer : Result Market Refusal
   pub called : Called c market answer
-  pub refusal : refusal ≡ first before (refusal_of c market.ticket)
-  pub market : next ≡ market_after answer market
+  pub refusal : told ≡ first before (refusal_of c market.ticket)
+  pub after : next ≡ market_after answer market
 
 -- The last market is reached from another by calls one after another.
 abbrev pub Reached : Market → List Call → Market → Type 0
@@ -86,7 +86,7 @@ pub record Kept (market : Market) (cs : List Call) (last : Market) : Type 0 wher
       Reached opened before market → Holds (after_all (before ++ cs) xs) last
 
 -- A list of calls: the first refusal among them, and the market after them.
-pub record Replayed (market : Market) (calls : List ℕ) (refusal : Checked) (last : Market) : Type 0 where
-  pub refusal : refusal ≡ first_refusal (calls_of calls) market.ticket
+pub record Replayed (market : Market) (calls : List ℕ) (told : Checked) (last : Market) : Type 0 where
+  pub refusal : told ≡ first_refusal (calls_of calls) market.ticket
   pub ticket : last.ticket ≡ after_all (calls_of calls) market.ticket
   pub kept : Kept market (calls_of calls) last

@@ -31,12 +31,7 @@ pub fn set_pilot_hours(market: Market, pilot: u16, hours: u16) -> Result<Market,
 }
 
 // Sets the five numbers of a grower and a pilot.
-pub fn set_pair(
-    market: Market,
-    grower: u16,
-    pilot: u16,
-    terms: Terms,
-) -> Result<Market, Refusal>
+pub fn set_pair(market: Market, grower: u16, pilot: u16, terms: Terms) -> Result<Market, Refusal>
     ensures { Called (SetPair grower pilot terms) market result }
 {
     let mut ticket = market.ticket;

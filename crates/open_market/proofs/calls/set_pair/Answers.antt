@@ -6,8 +6,8 @@ use Rattle.open_market.proofs.CallLaws.{refused_called, accepted_called}
 use Rattle.open_market.proofs.calls.set_pair.Goals as goal
 
 pub returns-in_err-set_pair : goal.returns-in_err-set_pair
-returns-in_err-set_pair c = refused_called (SetPair c.args.grower c.args.pilot c.args.terms) _ _ _ (sym c.in_err-set_pair.ensures.value)
+returns-in_err-set_pair c = refused_called (SetPair c.args.grower c.args.pilot c.args.terms) c.args.market _ _ (sym c.in_err-set_pair.ensures.value)
     (met_is c.from_residual.result _ c.from_residual.ensures.1)
 
 pub returns : goal.returns
-returns c = accepted_called (SetPair c.args.grower c.args.pilot c.args.terms) _ _ _ _ (sym c.in_ok-set_pair.ensures.value) c.set_pair.ensures.ticket_after c.settled.ensures refl
+returns c = accepted_called (SetPair c.args.grower c.args.pilot c.args.terms) c.args.market _ _ _ (sym c.in_ok-set_pair.ensures.value) c.set_pair.ensures.ticket_after c.settled.ensures refl
