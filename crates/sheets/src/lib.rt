@@ -62,12 +62,7 @@ fn print_settled(page: &mut [u8; 8216], ticket: &[u8], numbers: &[u16]) -> usize
     let reply = settler::settle(ticket, &mut settlement);
     match reply {
         Err(_) => 0,
-        Ok(count) => print_file(
-            page,
-            ticket,
-            numbers,
-            ascii::front(&settlement, count),
-        ),
+        Ok(count) => print_file(page, ticket, numbers, ascii::front(&settlement, count)),
     }
 }
 
@@ -84,7 +79,8 @@ fn sheet_refused(why: Refusal, text: &mut [u8]) -> Result<usize, Refusal>
     ensures { Sheeted (Err why) text.old text.new result }
 {
     let mut page = blank();
-    let end = counted(&mut page, 0, b"REFUSED ", usize::from(u8::from(why)));
+    let number = u8::from(why);
+    let end = counted(&mut page, 0, b"REFUSED ", usize::from(number));
     if text.len() < end {
         return Err(Refusal::NoRoom);
     }

@@ -2,6 +2,7 @@
 -- Assumes nothing.
 use mathlib.Core.Path.{◌≡◌, refl}
 use mathlib.Core.List.{[], ◌∷◌}
+use Rattle.checks.specs.declared.refusals.Refusal.{Refusal}
 use Rattle.market.specs.declared.Deal.TheVariants.{Free}
 use Rattle.verdicts.specs.declared.Verdict.TheVariants.{Refused, Blocks}
 use Rattle.verdicts.specs.Values.{values_of}
@@ -17,7 +18,7 @@ unfolding decimal
 blocks = refl
 
 -- `REFUSED 16`
-pub refused : mark_line (values_of (Refused 16)) ≡ 82 ∷ 69 ∷ 70 ∷ 85 ∷ 83 ∷ 69 ∷ 68 ∷ 32 ∷ 49 ∷ 54 ∷ 10 ∷ []
+pub refused : mark_line (values_of (Refused Refusal.SettlementNumbersLeft)) ≡ 82 ∷ 69 ∷ 70 ∷ 85 ∷ 83 ∷ 69 ∷ 68 ∷ 32 ∷ 49 ∷ 54 ∷ 10 ∷ []
 unfolding decimal
 refused = refl
 

@@ -18,5 +18,5 @@ pub returns : goal.returns
 returns c = wrote_then
     c.word-first.ensures
     (wrote_then
-    c.spaced-second.ensures
+    (rw c.from.ensures at c.spaced-second.ensures)
     (wrote_then c.spaced-third.ensures c.spaced.ensures))

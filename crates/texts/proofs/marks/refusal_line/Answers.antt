@@ -13,4 +13,4 @@ word-requires c = let first = room_after 8 4 c.word-next.ensures (omega arith)
 pub returns : goal.returns
 returns c = wrote_then
     c.word-next.ensures
-    (wrote_then c.number-last.ensures c.word.ensures)
+    (wrote_then (rw c.from.ensures at c.number-last.ensures) c.word.ensures)
