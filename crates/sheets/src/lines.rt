@@ -17,11 +17,7 @@ pub(crate) fn word(page: &mut [u8; 8216], at: usize, bytes: &[u8]) -> usize
     requires { at + length bytes.now ≤ page_bytes }
     ensures { Wrote page.old page.new at result bytes.now }
 {
-    let mut here = at;
-    for k in 0..bytes.len() {
-        here = put(page, here, bytes[k]);
-    }
-    here
+    pages::put(page, at, bytes)
 }
 
 // A number in decimal, be it an amount or a count.
@@ -61,6 +57,7 @@ pub(crate) fn amounts(page: &mut [u8; 8216], at: usize, numbers: &[u16]) -> usiz
     ensures { Wrote page.old page.new at result (line numbers.now) }
 {
     let mut here = at;
+    // By k: what stands after a number depends on whether it is the last.
     for k in 0..numbers.len() {
         here = field(page, here, numbers[k], separator_at(numbers, k));
     }

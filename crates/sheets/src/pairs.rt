@@ -14,6 +14,7 @@ fn party(x: usize) -> u16
     requires { x < 16 }
     ensures { result ≡ x }
 {
+    // `as` is proved to lose nothing here; `try_from` would ask for an answer that is never given.
     x as u16
 }
 
@@ -57,7 +58,7 @@ fn pair_numbers(
 fn no_hours(tariff: u16, free: u16) -> bool
     ensures { result ≡ (eqb tariff 0 && eqb free 0) }
 {
-    if tariff == 0 { free == 0 } else { false }
+    tariff == 0 && free == 0
 }
 
 // The line of a pair, if it has any hours.
@@ -92,6 +93,7 @@ pub(crate) fn pair_lines(
 {
     let end = numbers::pairs(growers, pilots);
     let mut here = at;
+    // By number: p says which grower and which pilot.
     for p in 0..end {
         let numbers = pair_numbers(
             p / pilots,
