@@ -78,7 +78,7 @@ module _ (file lent : List ℕ) (market : Market) (o : Opened file (Ok market)) 
   open_done after h e =
       let room : leb (length (numbers_in market)) (length lent) ≡ true =
       le-leb (length (numbers_in market)) (length lent) (omega (arith, long)) in
-      record { answer = Ok market; opened = o; tells = rw (room, long) (counts _ _ refl); left = rw (room, long) e }
+      record { answer = Ok market; opened = o; tells = rw (room, long) (counts _ _ refl); left = rw room e }
 
 -- What calls answer and leave.
 pub no_market : (calls lent : List ℕ) → length lent < market_length → CalledIn calls lent lent (Err Refusal.NoRoom)
