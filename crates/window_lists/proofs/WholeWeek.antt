@@ -7,6 +7,7 @@ use mathlib.Core.List.{List, [], ◌∷◌}
 use native.Mathlib.Omega.{arith}
 use borrow.Author.Tests.{le-leb, eq-eqb}
 use lib.ListN.{get_or, length}
+use Rattle.std.specs.Prelude.{Ok}
 use Rattle.grid.specs.Every.{every}
 use Rattle.week.specs.Week.{stretch, covered}
 use Rattle.week.proofs.WeekLaws.{has_inside, all_hours}
@@ -56,7 +57,7 @@ module _ (k : ℕ) where
     window_passes_lem : window_passes list (3 * party) 0 ≡ true
     window_passes_lem = rw (three.first, three.closing)
 
-    party_passes : party_refusal list (3 * party) ≡ 0
+    party_passes : party_refusal list (3 * party) ≡ Ok tt
     unfolding every
     party_passes =
         rw (three.count, window_passes_lem, le-leb (3 * party + 1 + 2 * 1) (length list) (omega (arith, whole_long k)))
@@ -69,13 +70,13 @@ module _ (k : ℕ) where
     unfolding covered
     all_covered h l = rw windows_are (rw (has_inside 0 168 h (omega arith) l))
 
-  none_refused : (party : ℕ) → party ≤ k → parties_refusal list party ≡ 0
+  none_refused : (party : ℕ) → party ≤ k → parties_refusal list party ≡ Ok tt
   unfolding parties_refusal
   none_refused zero h = refl
   none_refused (suc party) h =
       rw (none_refused party (omega arith), place_of party (omega arith)) (party_passes party (omega arith))
 
-  pub whole_passes : windows_refusal list k ≡ 0
+  pub whole_passes : windows_refusal list k ≡ Ok tt
   whole_passes =
       rw (none_refused k (omega arith), place_of k (omega arith), eq-eqb (3 * k) (length list) (omega (arith, whole_long k)))
 

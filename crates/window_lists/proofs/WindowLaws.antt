@@ -1,6 +1,6 @@
 -- Parties and windows, one after another.
 -- Assumes nothing.
-use Prim.Native.Nat.{ℕ, ◌+◌, ◌≤◌, ◌<◌}
+use Prim.Native.Nat.{ℕ, zero, suc, ◌+◌, ◌-◌, ◌≤◌, ◌<◌}
 use mathlib.Core.Bool.{Bool, false, ◌&&◌, ◌||◌}
 use mathlib.Core.Logic.{⊎_elim}
 use mathlib.Core.Path.{◌≡◌, refl, ◌∙◌}
@@ -9,12 +9,14 @@ use native.Mathlib.Nat.{zero-add}
 use native.Mathlib.Omega.{arith}
 use native.Mathlib.Numerals.{add-one}
 use borrow.Author.Tests.{le-leb, lt-leb}
-use lib.Dec.{leb, eqb}
+use lib.Dec.{leb}
 use lib.ListN.{get_or, set, length}
 use lib.Seq.{get_or-set_same, get_or-set_other}
 use Rattle.grid.specs.Every.{every}
 use Rattle.grid.proofs.Cases.{eq_or_ne}
-use Rattle.checks.specs.Refusals.{not_windows, bad_window, must, first}
+use Rattle.std.specs.Prelude.{Result, Ok, Err, IsErrAnd}
+use Rattle.checks.specs.declared.refusals.Refusal.{Refusal}
+use Rattle.checks.specs.Refusals.{Checked, must, first}
 use Rattle.week.proofs.WeekLaws.{covered_none, covered_more, hours-same}
 use Rattle.week.specs.Week.{stretch, in_week, has, covered, hours_with, Marks}
 use Rattle.window_lists.specs.Windows.{next_place, party_place, window_at, first_windows, windows_of, common_hours, WeeksOf}
@@ -28,18 +30,35 @@ pub place_more : (list : List ℕ) (k place : ℕ) → place ≡ party_place lis
 unfolding party_place
 place_more list k place e = rw (add-one k, e)
 
-pub refusal_none : (list : List ℕ) → 0 ≡ parties_refusal list 0
+pub refusal_none : (list : List ℕ) → Ok tt ≡ parties_refusal list 0
 unfolding parties_refusal
 refusal_none list = refl
 
-pub refusal_more : (list : List ℕ) (k place why : ℕ) → place ≡ party_place list k → why ≡ parties_refusal list k →
-    first why (party_refusal list place) ≡ parties_refusal list (k + 1)
+pub refusal_more : (list : List ℕ) (k place : ℕ) (why : Checked) → place ≡ party_place list k → Ok tt ≡ parties_refusal list k →
+    why ≡ party_refusal list place → why ≡ parties_refusal list (k + 1)
 unfolding parties_refusal
-refusal_more list k place why e f = rw (add-one k, e, f)
+refusal_more list k place why e f g = rw (add-one k, ← f, g, e)
 
-pub refusal_all : (list : List ℕ) (k parties place why : ℕ) → place ≡ party_place list k → why ≡ parties_refusal list k → k ≡ parties →
-    first why (must (eqb place (length list)) not_windows) ≡ windows_refusal list parties
-refusal_all list k parties place why e f g = rw (f, e, g)
+-- What is refused of the first parties is refused of all.
+refused_on : (list : List ℕ) (k more : ℕ) (why : Refusal) → Err why ≡ parties_refusal list k → Err why ≡ parties_refusal list (more + k)
+unfolding parties_refusal
+refused_on list k zero why e = rw (zero-add k) e
+refused_on list k (suc more) why e =
+    let n : suc more + k ≡ suc (more + k) = omega arith in rw (n, ← refused_on list k more why e)
+
+pub refused : (list : List ℕ) (k parties place : ℕ) (why : Refusal) → k < parties → place ≡ party_place list k →
+    Ok tt ≡ parties_refusal list k → Err why ≡ party_refusal list place → Err why ≡ windows_refusal list parties
+refused list k parties place why h e f g =
+    let all : Err why ≡ parties_refusal list (parties - (k + 1) + (k + 1)) =
+    refused_on list (k + 1) (parties - (k + 1)) why (refusal_more list k place (Err why) e f g) in
+    let n : parties - (k + 1) + (k + 1) ≡ parties = omega arith in
+    let same : Err why ≡ parties_refusal list parties = rw n at all in
+    rw (← same)
+
+-- What `?` hands on is what was refused.
+pub met_is : {A : Type 0} (r : Result A Refusal) (why : Refusal) → IsErrAnd r (λ v. v ≡ why) → r ≡ Err why
+met_is (Ok a) why h = absurd h
+met_is (Err v) why h = rw h
 
 pub closed_more : (list : List ℕ) (place w : ℕ) → (window_at list place w).closing ≡ closed_before list place (w + 1)
 closed_more list place w = rw (add-one w)
@@ -51,14 +70,14 @@ window_test list place w first closing closed t a b c d = rw (d, a, b, c)
 
 -- The refusal of a party, by its tests in their order.
 module _ (list : List ℕ) (place : ℕ) where
-  pub too_many : 8 < get_or list place 0 → not_windows ≡ party_refusal list place
+  pub too_many : 8 < get_or list place 0 → Err Refusal.NotWindows ≡ party_refusal list place
   too_many h = rw (lt-leb (get_or list place 0) 8 h)
 
-  pub ends_early : get_or list place 0 ≤ 8 → length list < next_place list place → not_windows ≡ party_refusal list place
+  pub ends_early : get_or list place 0 ≤ 8 → length list < next_place list place → Err Refusal.NotWindows ≡ party_refusal list place
   ends_early h l = rw (le-leb (get_or list place 0) 8 h, lt-leb (next_place list place) (length list) l)
 
   pub only_windows : get_or list place 0 ≤ 8 → next_place list place ≤ length list →
-      must (every (window_passes list place) (get_or list place 0)) bad_window ≡ party_refusal list place
+      must (every (window_passes list place) (get_or list place 0)) Refusal.BadWindow ≡ party_refusal list place
   only_windows h l = rw (le-leb (get_or list place 0) 8 h, le-leb (next_place list place) (length list) l)
 
 -- The hours of a party's windows, one window after another.

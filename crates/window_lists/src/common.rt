@@ -7,7 +7,7 @@ ghost use Rattle.window_lists.specs.Windows.{windows_of, common_hours, WeeksOf};
 use crate::places::{party_place, window_at};
 use numbers::{entry, within};
 
-// The hours of a party's windows.
+// The hours of a party's windows. By number: the list may end before the last of them.
 fn week_of(list: &[u16], party: usize) -> [bool; 168]
     requires { party < 131072 }
     ensures { Marks (covered (windows_of list.now party)) result }
@@ -30,7 +30,7 @@ fn no_weeks() -> [[bool; 168]; 16]
     [[false; 168]; 16]
 }
 
-// The hours of some parties' windows, one after another.
+// The hours of some parties' windows, one after another. By number: that of a party says where its windows stand.
 fn weeks_from(list: &[u16], party: usize, count: usize) -> [[bool; 168]; 16]
     requires { (party < 65536) × (count ≤ 16) }
     ensures { WeeksOf list.now party count result }
@@ -43,7 +43,8 @@ fn weeks_from(list: &[u16], party: usize, count: usize) -> [[bool; 168]; 16]
     weeks
 }
 
-// The hours that each grower has in common with each pilot, as far as a square reaches, and 0 elsewhere.
+// The hours that each grower has in common with each pilot, as far as a square reaches, and 0 elsewhere. Both indices are needed: the
+// cell (i, j) is of the weeks i and j.
 pub fn common_hours(list: &[u16], growers: u16, pilots: u16) -> [[u16; 16]; 16]
     ensures { Filled (common_hours list.now growers) (min 16 growers) (min 16 pilots) result }
 {

@@ -5,13 +5,13 @@ ghost use Rattle.window_lists.specs.Windows.{place_limit};
 ghost use Rattle.window_lists.specs.WindowRefusals.{window_passes, party_refusal, windows_refusal};
 
 use crate::places::{next_place, window_at};
-use checks::{BAD_WINDOW, NOT_WINDOWS, first, must};
+use checks::{Refusal, must};
 use numbers::entry;
 
 // A party has at most so many windows.
 const MOST: usize = 8;
 
-// Whether so many windows of a party have hours of the week and rise.
+// Whether so many windows of a party have hours of the week and rise. By number: the list may end before the last of them.
 fn rise(list: &[u16], place: usize, count: usize) -> bool
     requires { (place < place_limit) × (count < 65536) }
     ensures { result ≡ every (window_passes list.now place) count }
@@ -27,30 +27,29 @@ fn rise(list: &[u16], place: usize, count: usize) -> bool
 }
 
 // The refusal of the party whose count stands at this place.
-fn party_refusal(list: &[u16], place: usize) -> u8
+fn party_refusal(list: &[u16], place: usize) -> Result<(), Refusal>
     requires { place < place_limit }
     ensures { result ≡ party_refusal list.now place }
 {
     let count = usize::from(entry(list, place));
     if MOST < count {
-        return NOT_WINDOWS;
+        return Err(Refusal::NotWindows);
     }
     if list.len() < next_place(list, place) {
-        return NOT_WINDOWS;
+        return Err(Refusal::NotWindows);
     }
-    must(rise(list, place, count), BAD_WINDOW)
+    must(rise(list, place, count), Refusal::BadWindow)
 }
 
-// The refusal of a list of so many growers and pilots, 0 if there is none.
-pub fn refusal(list: &[u16], growers: u16, pilots: u16) -> u8
+// The refusal of a list of so many growers and pilots, if there is one.
+pub fn refusal(list: &[u16], growers: u16, pilots: u16) -> Result<(), Refusal>
     ensures { result ≡ windows_refusal list.now (growers + pilots) }
 {
     let parties = usize::from(growers) + usize::from(pilots);
-    let mut why: u8 = 0;
     let mut place: usize = 0;
     for k in 0..parties {
-        why = first(why, party_refusal(list, place));
+        party_refusal(list, place)?;
         place = next_place(list, place);
     }
-    first(why, must(place == list.len(), NOT_WINDOWS))
+    must(place == list.len(), Refusal::NotWindows)
 }

@@ -9,9 +9,9 @@ loop-j-preserved c = let a = c.args in
     let height = c.within-rows.ensures.1 in
     let width = c.within-columns.ensures.1 in
     let same =
-    common_of a.list.now a.growers c.index-3.result c.within-rows.result
+    common_of a.list.now a.growers c.from-3.result c.within-rows.result
     c.within-columns.result c.weeks_from-grower_weeks.result c.weeks_from-pilot_weeks.result
-    c.loop-i.i c.loop-j.j c.common.result c.index-3.ensures.0 c.weeks_from-grower_weeks.ensures
+    c.loop-i.i c.loop-j.j c.common.result c.from-3.ensures c.weeks_from-grower_weeks.ensures
     c.weeks_from-pilot_weeks.ensures (omega arith) (omega arith) c.common.ensures in (
       omega arith,
       λ before p. part-put _ _ _ _ _ _ _ (omega (arith, height)) (omega arith) (omega (arith, width)) (omega arith) same

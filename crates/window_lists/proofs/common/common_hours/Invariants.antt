@@ -1,5 +1,5 @@
 -- `window_lists::common::common_hours` meets its contract: the square is filled row by row.
-use Prim.Native.Nat.{◌-◌, ◌≤◌}
+use Prim.Native.Nat.{◌≤◌}
 use Rattle.grid.proofs.Filling.{Part, RowPart}
 use Rattle.window_lists.specs.Windows.{common_hours}
 use Rattle.window_lists.proofs.common.common_hours.Given as goal

@@ -1,5 +1,5 @@
 -- `window_lists::common::weeks_from` meets its contract: one party after another.
-use Prim.Native.Nat.{◌-◌, ◌≤◌}
+use Prim.Native.Nat.{◌≤◌}
 use mathlib.Core.Path.{◌≡◌}
 use lib.ListN.{length}
 use Rattle.window_lists.specs.Windows.{WeeksOf}

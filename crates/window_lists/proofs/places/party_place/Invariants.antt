@@ -1,5 +1,5 @@
 -- `window_lists::places::party_place` meets its contract: one party after another is passed over.
-use Prim.Native.Nat.{◌*◌, ◌-◌, ◌≤◌}
+use Prim.Native.Nat.{◌*◌, ◌≤◌}
 use mathlib.Core.Path.{◌≡◌}
 use Rattle.window_lists.specs.Windows.{party_place}
 use Rattle.window_lists.proofs.places.party_place.Given as goal

@@ -1,5 +1,5 @@
 -- `window_lists::refusals::rise` meets its contract: one window after another is tested.
-use Prim.Native.Nat.{◌-◌, ◌≤◌}
+use Prim.Native.Nat.{◌≤◌}
 use mathlib.Core.Path.{◌≡◌}
 use Rattle.grid.specs.Every.{every}
 use Rattle.window_lists.specs.WindowRefusals.{closed_before, window_passes}
