@@ -55,28 +55,26 @@ fn all_less(from: [u16; 16], what: [u16; 16]) -> [u16; 16] {
     rest
 }
 
+fn agreed(settled: Settled, quantity: Quantity, side: Side, who: usize) -> [u16; 16] {
+    line(tables::square(settled.settlement, quantity), side, who)
+}
+
 fn dealings_of(settled: Settled, side: Side, who: usize) -> Dealings {
-    let pay = line(tables::square(settled.settlement, Quantity::Pay), side, who);
-    let joint_gain = line(
-        tables::square(settled.ticket, Quantity::JointGain),
-        side,
-        who,
-    );
+    let pay = agreed(settled, Quantity::Pay, side, who);
     let (earned, share) = match side {
-        Side::Growers => (Quantity::TariffGain, all_less(joint_gain, pay)),
+        Side::Growers => {
+            let joint_gain = line(
+                tables::square(settled.ticket, Quantity::JointGain),
+                side,
+                who,
+            );
+            (Quantity::TariffGain, all_less(joint_gain, pay))
+        }
         Side::Pilots => (Quantity::TariffPay, pay),
     };
     Dealings {
-        tariff: line(
-            tables::square(settled.settlement, Quantity::TariffHours),
-            side,
-            who,
-        ),
-        free: line(
-            tables::square(settled.settlement, Quantity::FreeDealHours),
-            side,
-            who,
-        ),
+        tariff: agreed(settled, Quantity::TariffHours, side, who),
+        free: agreed(settled, Quantity::FreeDealHours, side, who),
         earned: line(tables::square(settled.ticket, earned), side, who),
         share,
     }
@@ -87,13 +85,16 @@ fn sum(row: [u16; 16]) -> u32 {
     row.iter().fold(0u32, |total, &hours| total.saturating_add(u32::from(hours)))
 }
 
-fn all_hours(with: Dealings) -> u32 {
-    sum(with.tariff).saturating_add(sum(with.free))
+fn all_hours(tariff: [u16; 16], free: [u16; 16]) -> u32 {
+    sum(tariff).saturating_add(sum(free))
 }
 
 // The hours that a party flies in all his deals.
 pub fn flown(settled: Settled, side: Side, who: usize) -> u32 {
-    all_hours(dealings_of(settled, side, who))
+    all_hours(
+        agreed(settled, Quantity::TariffHours, side, who),
+        agreed(settled, Quantity::FreeDealHours, side, who),
+    )
 }
 
 // The first hour that is worth so much, but those of a deal with a partner. By index: four rows are read at one place.
@@ -132,7 +133,7 @@ pub(crate) fn cheapest(
     };
     let with = dealings_of(settled, side, who);
     let hours = numbers::entry(&tables::hours(settled.ticket, side), who);
-    if all_hours(with) < u32::from(hours) {
+    if all_hours(with.tariff, with.free) < u32::from(hours) {
         return Some(Spare::FreeHour);
     }
     let worth = cheapest_spare(
