@@ -7,6 +7,7 @@ use mathlib.Core.Path.{◌≡◌, refl, sym, ap, ◌∙◌}
 use mathlib.Core.List.{List}
 use native.Mathlib.Omega.{arith}
 use lib.ListN.{length}
+use Rattle.groups.specs.Groups.{pack}
 use Rattle.reader.specs.Walk.{Outcome}
 use Rattle.reader.specs.Answer.{unpacked, packed, reply, Tells, kept}
 use Rattle.reader.proofs.Facts.{unpacked_shape, reply_refused}
@@ -28,6 +29,11 @@ answers_as o o' lent after r e a = rw e at a
 
 pub refusal_answers : (lent : List ℕ) (why : Refusal) → Answers (Err why) lent lent (Err why)
 refusal_answers lent why = (tells (Err why) (length lent) (Err why) refl, refl)
+
+-- Windows that are not refused make the new ticket.
+pub windows_pass : (windows xs : List ℕ) → refusal_for windows xs ≡ Ok tt →
+    narrowed_as windows (Ok xs) ≡ Ok (pack (narrowed windows xs))
+windows_pass windows xs e = rw e
 
 module _ (windows list : List ℕ) (growers pilots : ℕ) (eg : growers ≡ growers_of list) (ep : pilots ≡ pilots_of list) where
   same_refusal : windows_refusal windows (growers + pilots) ≡ refusal_for windows (ticket_front list)

@@ -9,12 +9,16 @@ ghost use Rattle.reader.specs.Answer.{Tells, kept};
 ghost use Rattle.windows.specs.Narrowed.{new_ticket_of};
 ghost use Rattle.windows.specs.Held.{Holds, outcome_of};
 
+use checks::Refusal;
 use numbers::entry;
 use pairs::narrow_pairs;
-use checks::Refusal;
 
 // Narrows a ticket's numbers, which stand in front of a list, and writes the new ticket to the front of a lent buffer.
-fn narrow_numbers(ticket: [u16; 1315], windows: &[u16], new_ticket: &mut [u8]) -> Result<usize, Refusal>
+fn narrow_numbers(
+    ticket: [u16; 1315],
+    windows: &[u16],
+    new_ticket: &mut [u8],
+) -> Result<usize, Refusal>
     requires { Holds ticket }
     ensures tells { Tells result (length new_ticket.old) (outcome_of windows.now ticket) }
     ensures new_ticket_after { new_ticket.new ≡ kept new_ticket.old (outcome_of windows.now ticket) }
