@@ -1,16 +1,14 @@
 // The search: prices of pilots who tie rise together until somebody finds hours.
-use crate::deals::late_grower;
+use crate::deals::{has_late, late_grower, takes_tariff};
 use crate::events::{Progress, clear, reach, rise, tie};
-use crate::moves::{Displaced, Room, come, come_by_tariff};
-use crate::pilots::{Wanted, first_with};
-use crate::saturating::{ALL, plus};
-use crate::sets::{EVERYBODY, NOBODY, first, without_first};
-use crate::state::{
-    JOINS, LOOKS, PILOT_FREE, ROWS, SOURCE, State, UNSEEN, WITH, WORTHS, least_of, of, place_of,
-    places_of, set,
-};
+use crate::moves::{Room, come, come_by_tariff};
+use crate::pilots::{first_with, has_free};
+use crate::rows;
+use crate::sets::{EVERYBODY, first, without_first};
+use crate::state::{ALL, SOURCE, State};
 use crate::tariffs::{best_outside, tariff_time};
 use crate::ways::{Way, mark, way_to};
+use market::Deal;
 
 // How many events a search may take. Far more than was ever seen.
 const MOST_EVENTS: usize = 2000;
@@ -19,19 +17,12 @@ const MOST_EVENTS: usize = 2000;
 #[derive(Clone, Copy)]
 enum Step {
     On { progress: Progress },
-    Stop { displaced: Displaced },
-}
-
-// A pilot who has room for hours.
-#[derive(Clone, Copy)]
-enum Found {
-    Nobody,
-    Pilot { j: usize, given: Room },
+    Stop { displaced: Option<usize> },
 }
 
 // How a pilot who has a free hour, or else a late one, makes room.
 fn room_of(s: &State, j: usize) -> Room {
-    if 0 < of(s, PILOT_FREE, j) {
+    if 0 < s.pilot_free[j % 16] {
         return Room::FreeHours;
     }
     let k = late_grower(s, j);
@@ -39,36 +30,32 @@ fn room_of(s: &State, j: usize) -> Room {
 }
 
 // One who is reached now and has room; or whose tariff hour becomes late; or whose free-deal hour is worth nothing any more.
-fn find(s: &State, progress: Progress, new: u32, end: u16) -> Found {
-    let j = first_with(s, new, Wanted::AnyRoom);
-    if j < NOBODY {
-        return Found::Pilot {
-            j,
-            given: room_of(s, j),
-        };
+fn find(s: &State, progress: Progress, new: u32, end: u16) -> Option<(usize, Room)> {
+    let with_room = first_with(new, |j| has_free(s, j) | has_late(s, j));
+    if let Some(j) = with_room {
+        return Some((j, room_of(s, j)));
     }
     if progress.late == progress.now {
         let k = late_grower(s, progress.late_pilot);
-        return Found::Pilot {
-            j: progress.late_pilot,
-            given: Room::GivesUpTariff { k },
-        };
+        return Some((progress.late_pilot, Room::GivesUpTariff { k }));
     }
     if end == progress.now {
-        let k = first(places_of(s, ROWS, WORTHS, 1));
-        return Found::Pilot {
-            j: place_of(s, WITH, k),
-            given: Room::GivesUpFreeDeal { k },
-        };
+        let k = first(rows::places(&s.worths, 1, &s.bits));
+        return Some((place_with(s, k), Room::GivesUpFreeDeal { k }));
     }
-    Found::Nobody
+    None
+}
+
+// With whom a grower has the least hour of those with pilots reached.
+fn place_with(s: &State, k: usize) -> usize {
+    usize::from(s.with[k % 16]) % 16
 }
 
 fn by_tariff(s: &mut State, progress: Progress, grower: usize, from: usize, j: usize) -> Step {
     let way = Way {
         grower,
         from,
-        tariff: true,
+        deal: Deal::Tariff,
     };
     Step::Stop {
         displaced: come_by_tariff(&mut *s, progress.root, way, j),
@@ -76,15 +63,15 @@ fn by_tariff(s: &mut State, progress: Progress, grower: usize, from: usize, j: u
 }
 
 // A pilot whose tariff offers a grower at least so much.
-fn tariff_tie(s: &State, grower: usize, worth: u16) -> usize {
-    first_with(s, EVERYBODY, Wanted::Tariff { grower, worth })
+fn tariff_tie(s: &State, grower: usize, worth: u16) -> Option<usize> {
+    first_with(EVERYBODY, |j| takes_tariff(s, grower, j, worth))
 }
 
 // The one who asks is looked at: does a tariff tie?
 fn look_at_root(s: &mut State, progress: Progress) -> Step {
     let worth = progress.top.saturating_sub(progress.now);
-    let j = tariff_tie(s, progress.root, worth);
-    if j < NOBODY {
+    let tie = tariff_tie(s, progress.root, worth);
+    if let Some(j) = tie {
         return by_tariff(&mut *s, progress, progress.root, SOURCE, j);
     }
     let mut next = progress;
@@ -96,29 +83,29 @@ fn look_at_root(s: &mut State, progress: Progress) -> Step {
 fn look_first(s: &mut State, k: usize, from: usize, worth: u16, now: u16) {
     let other = best_outside(&mut *s, k);
     if other < worth {
-        set(&mut *s, LOOKS, k, plus(now, worth - other));
+        s.looks[k % 16] = now.saturating_add(worth - other);
     } else {
-        set(&mut *s, UNSEEN, k, 0);
+        s.unseen[k % 16] = 0;
         tie(&mut *s, k, worth, now, mark(k, from));
         let time = tariff_time(s, k, worth, now);
-        set(&mut *s, LOOKS, k, time);
+        s.looks[k % 16] = time;
     }
 }
 
 fn look_again(s: &mut State, progress: Progress, k: usize, from: usize, worth: u16) -> Step {
-    let j = tariff_tie(s, k, worth);
-    if j < NOBODY {
+    let tie = tariff_tie(s, k, worth);
+    if let Some(j) = tie {
         return by_tariff(&mut *s, progress, k, from, j);
     }
     let time = tariff_time(s, k, worth, progress.now);
-    set(&mut *s, LOOKS, k, time);
+    s.looks[k % 16] = time;
     Step::On { progress }
 }
 
 fn look_at_grower(s: &mut State, progress: Progress, k: usize) -> Step {
-    let worth = of(s, WORTHS, k);
-    let from = place_of(s, WITH, k);
-    if of(s, UNSEEN, k) == 0 {
+    let worth = s.worths[k % 16];
+    let from = place_with(s, k);
+    if s.unseen[k % 16] == 0 {
         look_again(&mut *s, progress, k, from, worth)
     } else {
         look_first(&mut *s, k, from, worth, progress.now);
@@ -128,7 +115,7 @@ fn look_at_grower(s: &mut State, progress: Progress, k: usize) -> Step {
 
 // All growers whose time it is, one after another, until a tariff ties.
 fn look_at_growers(s: &mut State, progress: Progress) -> Step {
-    let mut left = places_of(s, ROWS, LOOKS, progress.now);
+    let mut left = rows::places(&s.looks, progress.now, &s.bits);
     for turn in 0..16usize {
         if left == 0 {
             return Step::On { progress };
@@ -165,9 +152,7 @@ fn go_on(s: &mut State, progress: Progress, new: u32, look: u16) -> Step {
         return look_at_growers(&mut *s, progress);
     }
     if progress.now == progress.top.saturating_sub(1) {
-        return Step::Stop {
-            displaced: Displaced::Nobody,
-        };
+        return Step::Stop { displaced: None };
     }
     Step::On {
         progress: reach_all(&mut *s, progress, new),
@@ -176,7 +161,7 @@ fn go_on(s: &mut State, progress: Progress, new: u32, look: u16) -> Step {
 
 fn joined(s: &State, join: u16, now: u16) -> u32 {
     if join == now {
-        places_of(s, ROWS, JOINS, now)
+        rows::places(&s.joins, now, &s.bits)
     } else {
         0
     }
@@ -191,9 +176,9 @@ struct Times {
 }
 
 fn times_of(s: &State, now: u16) -> Times {
-    let join = least_of(s, ROWS, JOINS);
-    let end = plus(least_of(s, ROWS, WORTHS).saturating_sub(1), now);
-    let look = least_of(s, ROWS, LOOKS);
+    let join = rows::least(&s.joins);
+    let end = rows::least(&s.worths).saturating_sub(1).saturating_add(now);
+    let look = rows::least(&s.looks);
     Times { join, end, look }
 }
 
@@ -208,8 +193,8 @@ fn soonest(progress: Progress, times: Times) -> u16 {
 fn happen(s: &mut State, progress: Progress, new: u32, times: Times) -> Step {
     let found = find(s, progress, new, times.end);
     match found {
-        Found::Nobody => go_on(&mut *s, progress, new, times.look),
-        Found::Pilot { j, given } => {
+        None => go_on(&mut *s, progress, new, times.look),
+        Some((j, given)) => {
             let way = way_to(s, j);
             Step::Stop {
                 displaced: come(&mut *s, progress.root, way, j, given),
@@ -239,7 +224,7 @@ fn begin(s: &mut State, root: usize, top: u16) -> Progress {
     }
 }
 
-pub(crate) fn search(s: &mut State, root: usize, top: u16) -> Displaced {
+pub(crate) fn search(s: &mut State, root: usize, top: u16) -> Option<usize> {
     let mut progress = begin(&mut *s, root, top);
     for event in 0..MOST_EVENTS {
         let step = next_step(&mut *s, progress);
@@ -252,5 +237,5 @@ pub(crate) fn search(s: &mut State, root: usize, top: u16) -> Displaced {
             }
         }
     }
-    Displaced::Nobody
+    None
 }

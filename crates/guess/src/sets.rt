@@ -3,16 +3,9 @@
 // All 16.
 pub(crate) const EVERYBODY: u32 = 65535;
 
-// In place of one of them.
-pub(crate) const NOBODY: usize = 16;
-
-fn index(x: u32) -> usize {
-    x as usize
-}
-
 // The first place of a set.
 pub(crate) fn first(places: u32) -> usize {
-    index(u32::trailing_zeros(places)) % 16
+    u32::trailing_zeros(places) as usize % 16
 }
 
 pub(crate) fn bit(i: usize) -> u32 {
