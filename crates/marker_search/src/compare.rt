@@ -1,9 +1,6 @@
 // The marker's answer beside that of the plain search, field by field, and the count of what came of it.
 use market::Deal;
-use plain::{
-    Answer, Greatest, SOUND, WITHOUT_HOURS, count, first_settlement, found, settlement_length,
-    verdict,
-};
+use plain::{Answer, Kind, WITHOUT_HOURS, count, first_settlement, settlement_length, verdict};
 use verdicts::Values;
 
 // A tally's places: 0 for answers that differ, 1 to 8 for the verdicts that were compared, 9 for tickets, 10 for settlements
@@ -27,10 +24,6 @@ pub(crate) const WORTH_SOMETHING: usize = 15;
 
 pub(crate) const OTHER_WORTH: usize = 16;
 
-fn wide(x: u8) -> usize {
-    x as usize
-}
-
 fn number_of(deal: Deal) -> usize {
     match deal {
         Deal::Tariff => 0,
@@ -38,24 +31,13 @@ fn number_of(deal: Deal) -> usize {
     }
 }
 
-// The marker's verdict by its values on paper. A refusal has the verdict 0, which the plain search never answers.
-fn answer(values: Values) -> Answer {
-    let deal = values.deal;
-    found(
-        values.verdict,
-        values.grower,
-        values.pilot,
-        number_of(deal),
-        values.count,
-    )
-}
-
-fn same(a: Answer, b: Answer) -> bool {
-    a.number == b.number
-        && a.grower == b.grower
-        && a.pilot == b.pilot
-        && a.deal == b.deal
-        && a.count == b.count
+// The plain answer is the marker's verdict by its values on paper. A refusal has the verdict 0, which the plain search never answers.
+fn is_answer(wanted: Answer, values: Values) -> bool {
+    wanted.kind.number() == values.verdict
+        && wanted.grower == values.grower
+        && wanted.pilot == values.pilot
+        && wanted.deal == number_of(values.deal)
+        && wanted.count == values.count
 }
 
 fn count_if(is_met: bool, tally: &mut [usize; 17], place: usize) {
@@ -65,26 +47,35 @@ fn count_if(is_met: bool, tally: &mut [usize; 17], place: usize) {
 }
 
 // Only a sound settlement has a worth: the greatest, if that is promised.
-fn compare_worth(is_sound: bool, greatest: Greatest, worth: u64, tally: &mut [usize; 17]) {
-    let wanted: usize = if is_sound { greatest.worth } else { 0 };
-    count_if(is_sound && greatest.promised, &mut *tally, PROMISED);
+fn compare_worth(
+    is_sound: bool,
+    greatest: Option<usize>,
+    worth: u64,
+    tally: &mut [usize; 17],
+) {
+    let wanted = if is_sound {
+        greatest.unwrap_or(0)
+    } else {
+        0
+    };
+    count_if(is_sound && greatest.is_some(), &mut *tally, PROMISED);
     count_if(0 < wanted, &mut *tally, WORTH_SOMETHING);
     count_if(worth != wanted as u64, tally, OTHER_WORTH);
 }
 
 // A settlement judged by the plain search and by the marker.
-pub(crate) fn judge(ticket: &[u8], all: &[u8; 15], greatest: Greatest, tally: &mut [usize; 17]) {
+pub(crate) fn judge(ticket: &[u8], all: &[u8; 15], greatest: Option<usize>, tally: &mut [usize; 17]) {
     let settlement = ascii::front(all, settlement_length(ticket));
     let wanted = verdict(ticket, settlement);
     let given = verdicts::values_of(marker::mark(ticket, settlement));
-    count(&mut *tally, wide(wanted.number));
-    count_if(!same(wanted, answer(given)), &mut *tally, DIFFERENT);
-    compare_worth(wanted.number == SOUND, greatest, given.worth, &mut *tally);
+    count(&mut *tally, usize::from(wanted.kind.number()));
+    count_if(!is_answer(wanted, given), &mut *tally, DIFFERENT);
+    compare_worth(wanted.kind == Kind::Sound, greatest, given.worth, &mut *tally);
     count(tally, COMPARED);
 }
 
 // The same of a settlement within its ticket's limits.
-pub(crate) fn within(ticket: &[u8], all: &[u8; 15], greatest: Greatest, tally: &mut [usize; 17]) {
+pub(crate) fn within(ticket: &[u8], all: &[u8; 15], greatest: Option<usize>, tally: &mut [usize; 17]) {
     count(&mut *tally, WITHIN);
     judge(ticket, all, greatest, tally);
 }

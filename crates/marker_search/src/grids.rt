@@ -1,13 +1,15 @@
 // The search of each grid.
 use super::compare::{ONLY_FREE, TICKETS};
-use super::{beyond, compare, printed};
-use plain::{Greatest, Most, count, no_counts};
+use super::printed::{SEARCHED, Tally};
+use super::{beyond, compare};
+use plain::{Most, count, no_counts};
+use std::io;
 
 // Every settlement within a ticket's limits: at most 729, where each of six numbers takes at most three values, or 1296 with four pairs of
 // at most two hours and three pays.
-fn within_limits(ticket: &[u8], greatest: Greatest, tally: &mut [usize; 17]) {
+fn within_limits(ticket: &[u8], greatest: Option<usize>, tally: &mut [usize; 17]) {
     let mut settlement = plain::first_settlement(ticket);
-    for turn in 0..10000usize {
+    for _ in 0..10000usize {
         compare::within(ticket, &settlement, greatest, &mut *tally);
         if !plain::next_settlement(&mut settlement, ticket) {
             return;
@@ -23,7 +25,7 @@ fn of_ticket(file: &[u8; 27], tally: &mut [usize; 17]) {
         return;
     }
     let greatest = plain::greatest_worth(ticket);
-    if greatest.promised {
+    if greatest.is_some() {
         count(&mut *tally, ONLY_FREE);
     }
     within_limits(ticket, greatest, &mut *tally);
@@ -34,7 +36,7 @@ fn of_ticket(file: &[u8; 27], tally: &mut [usize; 17]) {
 fn of_grid(growers: u8, pilots: u8, most: Most) -> [usize; 17] {
     let mut tally = no_counts();
     let mut ticket = plain::first_ticket(growers, pilots, 0);
-    for turn in 0..1000000usize {
+    for _ in 0..1000000usize {
         of_ticket(&ticket, &mut tally);
         if !plain::next_ticket(&mut ticket, 3, most) {
             return tally;
@@ -65,12 +67,18 @@ fn only_free_deals() -> Most {
     }
 }
 
-pub(crate) fn all() {
-    printed::what_is_searched();
-    printed::tally(b"one grower and two pilots", of_grid(1, 2, all_deals()));
-    printed::tally(b"two growers and one pilot", of_grid(2, 1, all_deals()));
-    printed::tally(
-        b"two growers and two pilots, free deals only",
-        of_grid(2, 2, only_free_deals()),
-    );
+pub(crate) fn all(rt: &impl Print) -> io::Result<()> {
+    println!(rt; "{SEARCHED}")?;
+    let all = all_deals();
+    let free = only_free_deals();
+    let grids = [
+        ("one grower and two pilots", 1, 2, all),
+        ("two growers and one pilot", 2, 1, all),
+        ("two growers and two pilots, free deals only", 2, 2, free),
+    ];
+    for (grid, growers, pilots, most) in grids {
+        let counts = of_grid(growers, pilots, most);
+        print!(rt; "{}", Tally { grid, counts })?;
+    }
+    Ok(())
 }

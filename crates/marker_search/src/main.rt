@@ -7,6 +7,8 @@ mod compare;
 mod grids;
 mod printed;
 
-fn main() {
-    grids::all();
+use std::io;
+
+fn main(rt: HostRuntime) -> io::Result<()> {
+    grids::all(&rt)
 }

@@ -12,10 +12,10 @@ mod tally;
 mod tickets;
 mod worths;
 
-pub use faults::{Answer, SOUND, found, is_sound, verdict};
+pub use faults::{Answer, Kind, is_sound, verdict};
 pub use numbers::deals;
 pub use refusals::{WITHOUT_HOURS, is_refused};
 pub use settlements::{first_settlement, limit, next_settlement, settlement_length};
 pub use tally::{count, no_counts};
 pub use tickets::{Most, first_ticket, next_ticket, pairs_begin, ticket_length};
-pub use worths::{Greatest, greatest_worth};
+pub use worths::greatest_worth;

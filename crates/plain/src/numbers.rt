@@ -1,28 +1,10 @@
 // The numbers of a ticket and of a settlement of it. Deals are numbered in the order of the last walk: 2p is the tariff deal of
 // pair p, 2p + 1 the free one. Parties are numbered as their hours stand in the ticket: growers, then pilots.
-ghost use Rattle.std.specs.Prelude.{◌≡◌, ◌<◌};
-
-pub(crate) fn wide(x: u8) -> usize
-    ensures { (result ≡ x) × (result < 256) }
-{
-    x as usize
-}
-
-pub(crate) fn product(x: u8, y: u8) -> usize
-    ensures { result < 65536 }
-{
-    wide(x) * wide(y)
-}
+ghost use Rattle.std.specs.Prelude.{◌<◌};
 
 // The number at a place, 0 past the end.
 pub(crate) fn value(file: &[u8], place: usize) -> u8 {
-    if place < file.len() { file[place] } else { 0 }
-}
-
-fn two_at_most(x: u8) -> u8
-    ensures { result < 3 }
-{
-    if x < 3 { x } else { 2 }
+    file.get(place).copied().unwrap_or(0)
 }
 
 // How many there are.
@@ -30,13 +12,13 @@ fn two_at_most(x: u8) -> u8
 pub(crate) fn growers(ticket: &[u8]) -> u8
     ensures { result < 3 }
 {
-    two_at_most(value(ticket, 1))
+    value(ticket, 1).min(2)
 }
 
 pub(crate) fn pilots(ticket: &[u8]) -> u8
     ensures { result < 3 }
 {
-    two_at_most(value(ticket, 2))
+    value(ticket, 2).min(2)
 }
 
 pub(crate) fn parties(ticket: &[u8]) -> u8
@@ -87,12 +69,15 @@ pub(crate) fn is_free(deal: u8) -> bool {
 // What the ticket says.
 
 pub(crate) fn own_hours(ticket: &[u8], party: u8) -> u8 {
-    value(ticket, 3 + wide(party))
+    value(ticket, 3 + usize::from(party))
 }
 
 // The k-th of the five numbers of a pair.
 pub(crate) fn of_pair(ticket: &[u8], pair: u8, k: u8) -> u8 {
-    value(ticket, 3 + wide(parties(ticket)) + 5 * wide(pair) + wide(k))
+    value(
+        ticket,
+        3 + usize::from(parties(ticket)) + 5 * usize::from(pair) + usize::from(k),
+    )
 }
 
 pub(crate) fn cap(ticket: &[u8], deal: u8) -> u8 {
@@ -115,21 +100,20 @@ pub(crate) fn joint_gain(ticket: &[u8], deal: u8) -> u8 {
 // What the settlement says.
 
 pub(crate) fn hours(settlement: &[u8], deal: u8) -> u8 {
-    value(settlement, 3 + 3 * wide(deal / 2) + wide(deal % 2))
+    value(
+        settlement,
+        3 + 3 * usize::from(deal / 2) + usize::from(deal % 2),
+    )
 }
 
 pub(crate) fn pay(settlement: &[u8], deal: u8) -> u8 {
-    value(settlement, 5 + 3 * wide(deal / 2))
-}
-
-fn less(x: u8, y: u8) -> u8 {
-    if y < x { x - y } else { 0 }
+    value(settlement, 5 + 3 * usize::from(deal / 2))
 }
 
 // What an hour of a deal earns its grower: a, or what the pilot's pay leaves of c.
 fn grower_earns(ticket: &[u8], settlement: &[u8], deal: u8) -> u8 {
     if is_free(deal) {
-        less(joint_gain(ticket, deal), pay(settlement, deal))
+        joint_gain(ticket, deal).saturating_sub(pay(settlement, deal))
     } else {
         tariff_gain(ticket, deal)
     }

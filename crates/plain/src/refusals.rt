@@ -16,10 +16,5 @@ fn is_refused_at(ticket: &[u8], deal: u8) -> bool {
 }
 
 pub fn is_refused(ticket: &[u8]) -> bool {
-    for deal in 0..deals(ticket) {
-        if is_refused_at(ticket, deal) {
-            return true;
-        }
-    }
-    false
+    (0..deals(ticket)).any(|deal| is_refused_at(ticket, deal))
 }

@@ -1,12 +1,12 @@
 // The settlements of a ticket within its limits, one after another in the order of their bytes.
 ghost use Rattle.std.specs.Prelude.{◌<◌};
 
-use super::numbers::{growers, of_pair, pairs, pilots, wide};
+use super::numbers::{growers, of_pair, pairs, pilots};
 
 pub fn settlement_length(ticket: &[u8]) -> usize
     ensures { (2 < result) × (result < 16) }
 {
-    3 + 3 * wide(pairs(ticket))
+    3 + 3 * usize::from(pairs(ticket))
 }
 
 // The first: no hours, no pay.
@@ -33,7 +33,7 @@ pub fn limit(ticket: &[u8], place: usize) -> u8 {
     }
 }
 
-// The next settlement; after the last one, the first again and false.
+// The next settlement; after the last one, the first again and false. By index: the limit of a number is told by its place.
 pub fn next_settlement(settlement: &mut [u8; 15], ticket: &[u8]) -> bool {
     let mut place = settlement_length(ticket);
     while place > 3 {

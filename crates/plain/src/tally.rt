@@ -4,12 +4,8 @@ pub fn no_counts() -> [usize; 17] {
     [0; 17]
 }
 
-fn next(x: usize) -> usize {
-    if x < 1000000000000 { x + 1 } else { x }
-}
-
 pub fn count(tally: &mut [usize; 17], place: usize) {
-    if place < 17 {
-        tally[place] = next(tally[place]);
+    if let Some(counted) = tally.get_mut(place) {
+        *counted = counted.saturating_add(1);
     }
 }

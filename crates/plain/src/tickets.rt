@@ -1,10 +1,10 @@
 // The tickets of a grid, one after another in the order of their bytes: the last number turns fastest.
 ghost use Rattle.std.specs.Prelude.{◌<◌};
 
-use super::numbers::{pairs, parties, value, wide};
+use super::numbers::{pairs, parties, value};
 
 // The most that the numbers of a grid's tickets are.
-#[derive(Clone, Copy)]
+#[derive(Clone, Copy, Debug, PartialEq, Eq)]
 pub struct Most {
     pub hours: u8,
     pub tariff_cap: u8,
@@ -16,13 +16,13 @@ pub struct Most {
 pub fn pairs_begin(ticket: &[u8]) -> usize
     ensures { (2 < result) × (result < 8) }
 {
-    3 + wide(parties(ticket))
+    3 + usize::from(parties(ticket))
 }
 
 pub fn ticket_length(ticket: &[u8]) -> usize
     ensures { result < 28 }
 {
-    pairs_begin(ticket) + 5 * wide(pairs(ticket))
+    pairs_begin(ticket) + 5 * usize::from(pairs(ticket))
 }
 
 // The first ticket of a grid: all hours as given, all caps and amounts 0.
@@ -30,9 +30,8 @@ pub fn first_ticket(growers: u8, pilots: u8, hours: u8) -> [u8; 27] {
     let mut ticket: [u8; 27] = [
         1, growers, pilots, 0, 0, 0, 0, 0, 0, 0, 0, 0, 0, 0, 0, 0, 0, 0, 0, 0, 0, 0, 0, 0, 0, 0, 0,
     ];
-    for place in 3..pairs_begin(&ticket) {
-        ticket[place] = hours;
-    }
+    let pairs = pairs_begin(&ticket);
+    ticket[3..pairs].fill(hours);
     ticket
 }
 
@@ -56,7 +55,7 @@ fn most_at(ticket: &[u8], place: usize, most: Most) -> u8 {
 }
 
 // The next ticket, by the numbers from a place on; after the last one, these are 0 and the answer is false. The amounts of a cap
-// that turns are 0.
+// that turns are 0. By index: the most of an amount is told by the cap before it.
 pub fn next_ticket(ticket: &mut [u8; 27], from: usize, most: Most) -> bool {
     let mut place = ticket_length(&*ticket);
     while place > from {

@@ -2,36 +2,24 @@
 ghost use Rattle.std.specs.Prelude.{◌<◌};
 
 use super::faults::is_feasible;
-use super::numbers::{cap, deals, hours, is_free, joint_gain, product};
+use super::numbers::{cap, deals, hours, is_free, joint_gain};
 use super::settlements::{first_settlement, next_settlement};
 
-// The greatest worth of a ticket's feasible settlements, and whether it is promised of a sound one: not where there is a tariff deal, and
-// it is then 0.
-#[derive(Clone, Copy)]
-pub struct Greatest {
-    pub promised: bool,
-    pub worth: usize,
-}
-
 fn has_tariff_deal(ticket: &[u8]) -> bool {
-    for deal in 0..deals(ticket) {
-        if !is_free(deal) && cap(ticket, deal) > 0 {
-            return true;
-        }
-    }
-    false
+    (0..deals(ticket)).any(|deal| !is_free(deal) && cap(ticket, deal) > 0)
 }
 
 fn gain(ticket: &[u8], settlement: &[u8], deal: u8) -> usize
     ensures { result < 65536 }
 {
     if is_free(deal) {
-        product(hours(settlement, deal), joint_gain(ticket, deal))
+        usize::from(hours(settlement, deal)) * usize::from(joint_gain(ticket, deal))
     } else {
         0
     }
 }
 
+// By a loop, as the hours of a party.
 fn worth(ticket: &[u8], settlement: &[u8]) -> usize {
     let mut sum: usize = 0;
     for deal in 0..deals(ticket) {
@@ -54,7 +42,7 @@ fn with_settlement(ticket: &[u8], settlement: &[u8; 15], most: usize) -> usize {
 fn best(ticket: &[u8]) -> usize {
     let mut settlement = first_settlement(ticket);
     let mut most: usize = 0;
-    for turn in 0..1000000usize {
+    for _ in 0..1000000usize {
         most = with_settlement(ticket, &settlement, most);
         if !next_settlement(&mut settlement, ticket) {
             return most;
@@ -63,15 +51,10 @@ fn best(ticket: &[u8]) -> usize {
     most
 }
 
-pub fn greatest_worth(ticket: &[u8]) -> Greatest {
+// The greatest worth of a ticket's feasible settlements, where it is promised of a sound one: not where there is a tariff deal.
+pub fn greatest_worth(ticket: &[u8]) -> Option<usize> {
     if has_tariff_deal(ticket) {
-        return Greatest {
-            promised: false,
-            worth: 0,
-        };
+        return None;
     }
-    Greatest {
-        promised: true,
-        worth: best(ticket),
-    }
+    Some(best(ticket))
 }

@@ -10,6 +10,8 @@ mod settled;
 mod tally;
 mod worths;
 
-fn main() {
-    grids::all();
+use std::io;
+
+fn main(rt: HostRuntime) -> io::Result<()> {
+    grids::all(&rt)
 }

@@ -4,73 +4,83 @@ use super::tally::{
     TICKETS, UNSOUND, WORTH_SOMETHING, WRONG,
 };
 use plain::Most;
-use report::{end_line, line, number, text};
+use std::fmt;
 
-fn words(before: &[u8], x: u8) {
-    text(before);
-    number(x as usize);
+// A grid: how many parties there are, and the least and the most that their numbers are.
+#[derive(Clone, Copy)]
+pub(crate) struct Grid {
+    pub(crate) growers: u8,
+    pub(crate) pilots: u8,
+    pub(crate) least_hours: u8,
+    pub(crate) most: Most,
 }
 
-fn parties(growers: u8, pilots: u8) {
-    words(b"", growers);
-    words(b" by ", pilots);
-}
-
-fn caps(tariff: u8, free: u8) {
-    if tariff == free {
-        words(b", caps to ", free);
-    } else {
-        words(b", tariff caps to ", tariff);
-        words(b", free caps to ", free);
+impl fmt::Display for Grid {
+    fn fmt<W: fmt::Write>(&self, f: &mut fmt::Formatter<W>) -> fmt::Result {
+        let most = self.most;
+        write!(
+            f,
+            "{} by {}, hours {} to {}",
+            self.growers, self.pilots, self.least_hours, most.hours
+        )?;
+        if most.tariff_cap == most.free_cap {
+            write!(f, ", caps to {}", most.free_cap)?;
+        } else {
+            write!(
+                f,
+                ", tariff caps to {}, free caps to {}",
+                most.tariff_cap, most.free_cap
+            )?;
+        }
+        writeln!(f, ", amounts to {}", most.amount)
     }
 }
 
-fn limits(most: Most) {
-    words(b" to ", most.hours);
-    caps(most.tariff_cap, most.free_cap);
-    words(b", amounts to ", most.amount);
+// What came of the tickets of a grid: how often each of it.
+#[derive(Clone, Copy)]
+pub(crate) struct Tickets {
+    pub(crate) counts: [usize; 17],
 }
 
-pub(crate) fn grid(growers: u8, pilots: u8, least_hours: u8, most: Most) {
-    parties(growers, pilots);
-    words(b", hours ", least_hours);
-    limits(most);
-    end_line();
+impl fmt::Display for Tickets {
+    fn fmt<W: fmt::Write>(&self, f: &mut fmt::Formatter<W>) -> fmt::Result {
+        let counts = &self.counts;
+        writeln!(f, "  {} tickets", counts[TICKETS])?;
+        writeln!(f, "  {} settled soundly", counts[SOUND])?;
+        writeln!(f, "  {} by the marker alone", counts[MARKER_ALONE])?;
+        writeln!(f, "  {} by the plain search alone", counts[PLAIN_ALONE])?;
+        writeln!(f, "  {} by neither", counts[UNSOUND])?;
+        writeln!(
+            f,
+            "  {} refused with 18, by the plain check too",
+            counts[REFUSED]
+        )?;
+        writeln!(
+            f,
+            "  {} by one of the two alone, or with another number",
+            counts[OTHERWISE]
+        )?;
+        writeln!(
+            f,
+            "  {} settled without tariff deals, their worths compared with the greatest, of which",
+            counts[ONLY_FREE]
+        )?;
+        writeln!(f, "  {} above 0", counts[WORTH_SOMETHING])?;
+        writeln!(f, "  {} given another worth", counts[OTHER_WORTH])
+    }
 }
 
-fn sound(counts: [usize; 17]) {
-    line(counts[TICKETS], b"tickets");
-    line(counts[SOUND], b"settled soundly");
-    line(counts[MARKER_ALONE], b"by the marker alone");
+// What came of their settlements.
+#[derive(Clone, Copy)]
+pub(crate) struct Settlements {
+    pub(crate) counts: [usize; 17],
 }
 
-fn unsound(counts: [usize; 17]) {
-    line(counts[PLAIN_ALONE], b"by the plain search alone");
-    line(counts[UNSOUND], b"by neither");
-    line(counts[REFUSED], b"refused with 18, by the plain check too");
-    line(
-        counts[OTHERWISE],
-        b"by one of the two alone, or with another number",
-    );
-}
-
-fn worths(counts: [usize; 17]) {
-    line(
-        counts[ONLY_FREE],
-        b"settled without tariff deals, their worths compared with the greatest, of which",
-    );
-    line(counts[WORTH_SOMETHING], b"above 0");
-    line(counts[OTHER_WORTH], b"given another worth");
-}
-
-pub(crate) fn tickets(counts: [usize; 17]) {
-    sound(counts);
-    unsound(counts);
-    worths(counts);
-}
-
-pub(crate) fn settlements(counts: [usize; 17]) {
-    line(counts[OURS], b"of them met in the search");
-    line(counts[OTHER], b"other sound settlements");
-    line(counts[WRONG], b"unsound ones");
+impl fmt::Display for Settlements {
+    fn fmt<W: fmt::Write>(&self, f: &mut fmt::Formatter<W>) -> fmt::Result {
+        let counts = &self.counts;
+        writeln!(f, "  {} of them met in the search", counts[OURS])?;
+        writeln!(f, "  {} other sound settlements", counts[OTHER])?;
+        writeln!(f, "  {} unsound ones", counts[WRONG])
+    }
 }

@@ -1,6 +1,6 @@
 // A ticket settled, and what the marker and the plain search say of it; or refused, by the settler and by the plain check.
 use super::tally::{MARKER_ALONE, OTHERWISE, PLAIN_ALONE, REFUSED, SOUND, UNSOUND};
-use reader::Reply;
+use reader::Refusal;
 use verdicts::Verdict;
 
 // Room for 3 + 4nm bytes with two growers and two pilots.
@@ -8,14 +8,10 @@ pub(crate) fn no_bytes() -> [u8; 19] {
     [0; 19]
 }
 
-fn wide(x: u8) -> usize {
-    x as usize
-}
-
 // Sound, with every deal looked at.
 fn is_marked_sound(ticket: &[u8], settlement: &[u8]) -> bool {
     match marker::mark(ticket, settlement) {
-        Verdict::Sound { count, worth: _ } => count == wide(plain::deals(ticket)),
+        Verdict::Sound { count, worth: _ } => count == usize::from(plain::deals(ticket)),
         _ => false,
     }
 }
@@ -29,8 +25,8 @@ fn judged(ticket: &[u8], settlement: &[u8]) -> usize {
     }
 }
 
-fn refused(ticket: &[u8], why: u8) -> usize {
-    if plain::is_refused(ticket) && why == plain::WITHOUT_HOURS {
+fn refused(ticket: &[u8], why: Refusal) -> usize {
+    if plain::is_refused(ticket) && u8::from(why) == plain::WITHOUT_HOURS {
         REFUSED
     } else {
         OTHERWISE
@@ -48,7 +44,7 @@ fn passed(ticket: &[u8], settlement: &[u8]) -> usize {
 // Settles a ticket into the lent bytes. The answer is a place of the tally.
 pub(crate) fn of_ticket(ticket: &[u8], lent: &mut [u8; 19]) -> usize {
     match settler::settle(ticket, &mut *lent) {
-        Reply::Refused { why } => refused(ticket, why),
-        Reply::Done { count } => passed(ticket, ascii::front(lent, count)),
+        Err(why) => refused(ticket, why),
+        Ok(count) => passed(ticket, ascii::front(lent, count)),
     }
 }
