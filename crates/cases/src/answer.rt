@@ -1,52 +1,44 @@
 // How the answers of the operations are printed.
 use market::Deal;
-use reader::Reply;
+use reader::Refusal;
 use report::{
     done_bytes, done_numbers, done_text, refused, refused_bytes, refused_numbers, verdict, worth,
 };
 use verdicts::Verdict;
 
 // A reply, and what it left in the lent list or buffer.
-pub(crate) fn with_numbers(reply: Reply, lent: &[u16]) {
+pub(crate) fn with_numbers(reply: Result<usize, Refusal>, lent: &[u16]) {
     match reply {
-        Reply::Refused { why } => refused_numbers(why, lent),
-        Reply::Done { count } => done_numbers(count, lent),
+        Err(why) => refused_numbers(u8::from(why), lent),
+        Ok(count) => done_numbers(count, lent),
     }
 }
 
-pub(crate) fn with_bytes(reply: Reply, lent: &[u8]) {
+pub(crate) fn with_bytes(reply: Result<usize, Refusal>, lent: &[u8]) {
     match reply {
-        Reply::Refused { why } => refused_bytes(why, lent),
-        Reply::Done { count } => done_bytes(count, lent),
+        Err(why) => refused_bytes(u8::from(why), lent),
+        Ok(count) => done_bytes(count, lent),
     }
 }
 
-pub(crate) fn with_text(reply: Reply, lent: &[u8]) {
+pub(crate) fn with_text(reply: Result<usize, Refusal>, lent: &[u8]) {
     match reply {
-        Reply::Refused { why } => refused_bytes(why, lent),
-        Reply::Done { count } => done_text(count, lent),
-    }
-}
-
-fn is_free(deal: Deal) -> bool {
-    match deal {
-        Deal::Tariff => false,
-        Deal::Free => true,
+        Err(why) => refused_bytes(u8::from(why), lent),
+        Ok(count) => done_text(count, lent),
     }
 }
 
 pub(crate) fn judged(answer: Verdict) {
     let values = verdicts::values_of(answer);
-    let deal = values.deal;
     if values.verdict == 0 {
         refused(values.refusal);
         return;
     }
     verdict(
-        values.verdict as usize,
+        usize::from(values.verdict),
         values.grower,
         values.pilot,
-        is_free(deal),
+        values.deal == Deal::Free,
         values.count,
     );
 }
@@ -58,5 +50,5 @@ pub(crate) fn with_worth(answer: Verdict) {
         refused(values.refusal);
         return;
     }
-    worth(values.verdict as usize, values.worth);
+    worth(usize::from(values.verdict), values.worth);
 }

@@ -68,8 +68,7 @@ fn all(input: &[u8]) -> Tally {
     let mut tally = script::nothing_counted();
     while 0 < rest.len() {
         tally = with_line(before(rest, b'\n'), tally);
-        let later = after(rest, b'\n');
-        rest = later;
+        rest = after(rest, b'\n');
     }
     tally
 }

@@ -1,11 +1,11 @@
 // `settle` and `sheet`: a ticket settled into bytes, with the verdict on them, and into text. `account`: what a settlement brings everybody.
 use super::answer::{judged, with_bytes, with_text};
-use reader::Reply;
+use reader::Refusal;
 use report::{marked_bytes, room_of_bytes};
 
-fn settled(ticket: &[u8], reply: Reply, lent: &[u8]) {
+fn settled(ticket: &[u8], reply: Result<usize, Refusal>, lent: &[u8]) {
     with_bytes(reply, lent);
-    if let Reply::Done { count } = reply {
+    if let Ok(count) = reply {
         judged(marker::mark(ticket, ascii::front(lent, count)));
     }
 }
@@ -23,13 +23,8 @@ pub(crate) fn sheet(ticket: &[u8], room: usize) {
 }
 
 pub(crate) fn account(ticket: &[u8], settlement: &[u8]) {
-    let account = accounts::account(ticket, settlement);
-    let reply = account.reply;
-    match reply {
-        Reply::Refused { why } => report::refused(why),
-        Reply::Done { count } => {
-            let list = account.list;
-            report::done_list(count, &list);
-        }
+    match accounts::account(ticket, settlement) {
+        Err(why) => report::refused(u8::from(why)),
+        Ok(account) => report::done_list(account.count, &account.list),
     }
 }

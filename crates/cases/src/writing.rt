@@ -16,14 +16,14 @@ pub(crate) fn write(list: &[u16], growers: usize, pilots: usize, room: usize) {
 }
 
 fn with_part(n: usize, part: u16) -> usize {
-    n % 0x0001_0000_0000_0000 * 0x0001_0000 + part as usize
+    n % 0x0001_0000_0000_0000 * 0x0001_0000 + usize::from(part)
 }
 
 // The number of 64 bits that parts of 16 make, the highest first.
 fn joined(parts: &[u16]) -> usize {
     let mut n: usize = 0;
-    for k in 0..parts.len() {
-        n = with_part(n, parts[k]);
+    for &part in parts {
+        n = with_part(n, part);
     }
     n
 }

@@ -47,35 +47,41 @@ fn count_if(is_met: bool, tally: &mut [usize; 17], place: usize) {
 }
 
 // Only a sound settlement has a worth: the greatest, if that is promised.
-fn compare_worth(
-    is_sound: bool,
-    greatest: Option<usize>,
-    worth: u64,
-    tally: &mut [usize; 17],
-) {
-    let wanted = if is_sound {
-        greatest.unwrap_or(0)
-    } else {
-        0
-    };
+fn compare_worth(is_sound: bool, greatest: Option<usize>, worth: u64, tally: &mut [usize; 17]) {
+    let wanted = if is_sound { greatest.unwrap_or(0) } else { 0 };
     count_if(is_sound && greatest.is_some(), &mut *tally, PROMISED);
     count_if(0 < wanted, &mut *tally, WORTH_SOMETHING);
     count_if(worth != wanted as u64, tally, OTHER_WORTH);
 }
 
 // A settlement judged by the plain search and by the marker.
-pub(crate) fn judge(ticket: &[u8], all: &[u8; 15], greatest: Option<usize>, tally: &mut [usize; 17]) {
+pub(crate) fn judge(
+    ticket: &[u8],
+    all: &[u8; 15],
+    greatest: Option<usize>,
+    tally: &mut [usize; 17],
+) {
     let settlement = ascii::front(all, settlement_length(ticket));
     let wanted = verdict(ticket, settlement);
     let given = verdicts::values_of(marker::mark(ticket, settlement));
     count(&mut *tally, usize::from(wanted.kind.number()));
     count_if(!is_answer(wanted, given), &mut *tally, DIFFERENT);
-    compare_worth(wanted.kind == Kind::Sound, greatest, given.worth, &mut *tally);
+    compare_worth(
+        wanted.kind == Kind::Sound,
+        greatest,
+        given.worth,
+        &mut *tally,
+    );
     count(tally, COMPARED);
 }
 
 // The same of a settlement within its ticket's limits.
-pub(crate) fn within(ticket: &[u8], all: &[u8; 15], greatest: Option<usize>, tally: &mut [usize; 17]) {
+pub(crate) fn within(
+    ticket: &[u8],
+    all: &[u8; 15],
+    greatest: Option<usize>,
+    tally: &mut [usize; 17],
+) {
     count(&mut *tally, WITHIN);
     judge(ticket, all, greatest, tally);
 }

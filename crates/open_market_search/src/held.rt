@@ -1,19 +1,18 @@
 // What is held between calls, beside what the paper says is held; and both after one more call.
 use super::free::compare_free_hours;
 use super::judged::judged;
-use super::paper::{GROWER, PAIR, PILOT, Told, answered, value};
-use super::tally::{
-    ACCEPTED, AGAINST_LIMITS, CHANGED, NO_PARTY, NUMBERS_LEFT, OTHER_ANSWER, OTHER_TICKET,
-};
-use open_market::{Answer, Market, Terms};
+use super::paper::{GROWER, PAIR, PILOT, Refused, answered, value};
+use super::tally::{ACCEPTED, AGAINST_LIMITS, NO_PARTY, NUMBERS_LEFT, OTHER_ANSWER, OTHER_TICKET};
+use open_market::{Market, Terms};
 use plain::count;
+use reader::Refusal;
 
-// A market, the ticket's numbers by the paper, and the first refusal of the calls so far, 0 if there is none.
+// A market, the ticket's numbers by the paper, and the first refusal of the calls so far.
 #[derive(Clone, Copy)]
 pub(crate) struct Held {
     pub market: Market,
     pub ticket: [u16; 27],
-    pub refusal: u8,
+    pub refused: Option<Refused>,
 }
 
 // Whether two lists differ in no place. All are looked at, which is quicker than to stop.
@@ -83,26 +82,32 @@ pub(crate) fn compare_market(market: Market, ticket: &[u16; 27], tally: &mut [us
     compare_free_hours(market, ticket, tally);
 }
 
-fn place_of(refusal: u8) -> usize {
-    match refusal {
-        0 => ACCEPTED,
-        19 => NO_PARTY,
-        _ => AGAINST_LIMITS,
+fn place_of(told: Result<[u16; 27], Refused>) -> usize {
+    match told {
+        Ok(_) => ACCEPTED,
+        Err(Refused::NoParty) => NO_PARTY,
+        Err(Refused::AgainstLimits) => AGAINST_LIMITS,
     }
 }
 
-// What a call left, beside what it had and what the paper says.
-fn compare(before: Market, answer: Answer, told: Told, tally: &mut [usize; 17]) {
-    count(&mut *tally, place_of(told.refusal));
-    if answer.refusal != told.refusal {
+// What a call comes to, beside what the paper says, and what is held after it beside what was. A market that refuses stays as it was.
+fn compare(
+    before: Market,
+    made: Result<Market, Refusal>,
+    told: Result<[u16; 27], Refused>,
+    after: Held,
+    tally: &mut [usize; 17],
+) {
+    count(&mut *tally, place_of(told));
+    let given = made.err().map(|why| u8::from(why));
+    let wanted = told.err().map(|why| why.number());
+    if given != wanted {
         count(&mut *tally, OTHER_ANSWER);
     }
-    let after = answer.market;
-    let ticket = told.ticket;
-    compare_market(after, &ticket, &mut *tally);
-    if told.refusal == 0 {
-        count(tally, judged(&ticket, after));
-    } else if !is_same(before, after) {
+    compare_market(after.market, &after.ticket, &mut *tally);
+    if told.is_ok() {
+        count(tally, judged(&after.ticket, after.market));
+    } else if !is_same(before, after.market) {
         count(tally, CHANGED);
     }
 }
@@ -118,7 +123,7 @@ fn terms(call: &[u16; 8]) -> Terms {
 }
 
 // What is no call can only be replayed; here it is refused as there.
-fn answer(market: Market, call: &[u16; 8]) -> Answer {
+fn answer(market: Market, call: &[u16; 8]) -> Result<Market, Refusal> {
     let kind = call[0];
     if kind == GROWER {
         open_market::set_grower_hours(market, call[1], call[2])
@@ -127,28 +132,18 @@ fn answer(market: Market, call: &[u16; 8]) -> Answer {
     } else if kind == PAIR {
         open_market::set_pair(market, call[1], call[2], terms(call))
     } else {
-        Answer {
-            refusal: 20,
-            market,
-        }
+        Err(Refusal::AgainstLimits)
     }
-}
-
-pub(crate) fn first(refusal: u8, next: u8) -> u8 {
-    if refusal == 0 { next } else { refusal }
 }
 
 pub(crate) fn after(held: Held, call: &[u16; 8], tally: &mut [usize; 17]) -> Held {
-    let before = held.market;
-    let known = held.ticket;
-    let made = answer(before, call);
-    let by_paper = answered(known, call);
-    compare(before, made, by_paper, tally);
-    let market = made.market;
-    let ticket = by_paper.ticket;
-    Held {
-        market,
-        ticket,
-        refusal: first(held.refusal, by_paper.refusal),
-    }
+    let made = answer(held.market, call);
+    let told = answered(held.ticket, call);
+    let after = Held {
+        market: made.unwrap_or(held.market),
+        ticket: told.unwrap_or(held.ticket),
+        refused: held.refused.or(told.err()),
+    };
+    compare(held.market, made, told, after, tally);
+    after
 }

@@ -4,14 +4,10 @@ use super::tally::{MARKED_SOUND, SOUND, UNSOUND};
 use open_market::Market;
 use verdicts::Verdict;
 
-fn wide(x: u8) -> usize {
-    x as usize
-}
-
 // Sound, with every deal looked at.
 fn is_marked_sound(ticket: &[u8], settlement: &[u8]) -> bool {
     match marker::mark(ticket, settlement) {
-        Verdict::Sound { count, worth: _ } => count == wide(plain::deals(ticket)),
+        Verdict::Sound { count, worth: _ } => count == usize::from(plain::deals(ticket)),
         _ => false,
     }
 }

@@ -1,16 +1,22 @@
 // What the calls make of a small ticket's numbers, by the words of the paper. A ticket has at most two growers and two pilots here.
 ghost use Rattle.std.specs.Prelude.{◌+◌, ◌<◌, ◌≤◌};
 
-// What a call comes to: the refusal, 0 if there is none, and the ticket's numbers after it, 0 past their end.
-#[derive(Clone, Copy)]
-pub(crate) struct Told {
-    pub refusal: u8,
-    pub ticket: [u16; 27],
+// Why the paper refuses a call.
+#[derive(Clone, Copy, Debug, PartialEq, Eq)]
+pub(crate) enum Refused {
+    NoParty,
+    AgainstLimits,
 }
 
-const NO_PARTY: u8 = 19;
-
-pub(crate) const AGAINST_LIMITS: u8 = 20;
+impl Refused {
+    // Its number on paper.
+    pub(crate) fn number(self) -> u8 {
+        match self {
+            Refused::NoParty => 19,
+            Refused::AgainstLimits => 20,
+        }
+    }
+}
 
 // The first number of a call says which it is.
 pub(crate) const GROWER: u16 = 1;
@@ -124,22 +130,14 @@ pub(crate) fn hours_place(ticket: &[u16], kind: u16, party: usize) -> usize
     }
 }
 
-fn refused(refusal: u8, ticket: [u16; 27]) -> Told {
-    Told { refusal, ticket }
-}
-
-fn accepted(ticket: [u16; 27]) -> Told {
-    Told { refusal: 0, ticket }
-}
-
-fn hours_told(ticket: [u16; 27], kind: u16, party: usize, hours: u16) -> Told
+fn hours_told(ticket: [u16; 27], kind: u16, party: usize, hours: u16) -> Result<[u16; 27], Refused>
     requires { party < 65536 }
 {
     if !is_there(&ticket, kind, party) {
-        return refused(NO_PARTY, ticket);
+        return Err(Refused::NoParty);
     }
     if hours > 60 {
-        return refused(AGAINST_LIMITS, ticket);
+        return Err(Refused::AgainstLimits);
     }
     let mut after = ticket;
     let place = hours_place(&after, kind, party);
@@ -147,7 +145,7 @@ fn hours_told(ticket: [u16; 27], kind: u16, party: usize, hours: u16) -> Told
     if hours == 0 {
         clear(&mut after, kind, party);
     }
-    accepted(after)
+    Ok(after)
 }
 
 fn has_no_hours(ticket: &[u16], kind: u16, party: usize) -> bool
@@ -172,26 +170,31 @@ fn pair_place(ticket: &[u16], grower: usize, pilot: usize) -> usize
 }
 
 // The five numbers of a pair stand after kind, grower and pilot in the call.
-fn pair_told(ticket: [u16; 27], grower: usize, pilot: usize, call: &[u16; 8]) -> Told
+fn pair_told(
+    ticket: [u16; 27],
+    grower: usize,
+    pilot: usize,
+    call: &[u16; 8],
+) -> Result<[u16; 27], Refused>
     requires { (grower < 65536) × (pilot < 65536) }
 {
     if !is_there(&ticket, GROWER, grower) || !is_there(&ticket, PILOT, pilot) {
-        return refused(NO_PARTY, ticket);
+        return Err(Refused::NoParty);
     }
     let none = has_no_hours(&ticket, GROWER, grower) || has_no_hours(&ticket, PILOT, pilot);
     if is_wrong_deal(call[3], call[4], call[5], none) || is_wrong_deal(call[6], call[7], 0, none) {
-        return refused(AGAINST_LIMITS, ticket);
+        return Err(Refused::AgainstLimits);
     }
     let mut after = ticket;
     let place = pair_place(&after, grower, pilot);
     for k in 0..5usize {
         put(&mut after, place + k, call[3 + k]);
     }
-    accepted(after)
+    Ok(after)
 }
 
-// What a call makes of a ticket. Another kind is no call.
-pub(crate) fn answered(ticket: [u16; 27], call: &[u16; 8]) -> Told {
+// The numbers of a ticket after a call, 0 past their end. Another kind is no call.
+pub(crate) fn answered(ticket: [u16; 27], call: &[u16; 8]) -> Result<[u16; 27], Refused> {
     let kind = call[0];
     let one = usize::from(call[1]);
     if kind == GROWER || kind == PILOT {
@@ -199,6 +202,6 @@ pub(crate) fn answered(ticket: [u16; 27], call: &[u16; 8]) -> Told {
     } else if kind == PAIR {
         pair_told(ticket, one, usize::from(call[2]), call)
     } else {
-        refused(AGAINST_LIMITS, ticket)
+        Err(Refused::AgainstLimits)
     }
 }

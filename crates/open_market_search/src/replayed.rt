@@ -1,8 +1,8 @@
 // The same calls given to `replay` as one list: whole, and with its last call cut short.
 ghost use Rattle.std.specs.Prelude.{◌<◌};
 
-use super::held::{Held, first, is_same};
-use super::paper::AGAINST_LIMITS;
+use super::held::{Held, is_same};
+use super::paper::Refused;
 use super::tally::{CUT, OTHER_REPLAY, REPLAYED};
 use open_market::Market;
 use plain::count;
@@ -45,10 +45,17 @@ pub(crate) fn with_call(calls: Calls, call: &[u16; 8]) -> Calls {
     }
 }
 
-fn compare(opened: Market, calls: &[u16], market: Market, refusal: u8, tally: &mut [usize; 17]) {
-    let answer = open_market::replay(opened, calls);
-    let end = answer.market;
-    if answer.refusal != refusal || !is_same(end, market) {
+fn compare(
+    opened: Market,
+    calls: &[u16],
+    market: Market,
+    refused: Option<Refused>,
+    tally: &mut [usize; 17],
+) {
+    let (outcome, end) = open_market::replay(opened, calls);
+    let told = outcome.err().map(|why| u8::from(why));
+    let wanted = refused.map(|why| why.number());
+    if told != wanted || !is_same(end, market) {
         count(tally, OTHER_REPLAY);
     }
 }
@@ -58,11 +65,7 @@ pub(crate) fn whole(opened: Market, calls: Calls, held: Held, tally: &mut [usize
     let numbers = calls.numbers;
     let market = held.market;
     let list = numbers::front(&numbers, length(calls.count));
-    compare(opened, list, market, held.refusal, tally);
-}
-
-fn less(whole: usize, by: usize) -> usize {
-    if by < whole { whole - by } else { 0 }
+    compare(opened, list, market, held.refused, tally);
 }
 
 // `held` is what is held before the last call. With one to seven numbers less that call is none.
@@ -70,10 +73,10 @@ pub(crate) fn cut(opened: Market, calls: Calls, held: Held, tally: &mut [usize; 
     let numbers = calls.numbers;
     let whole = length(calls.count);
     let market = held.market;
-    let refusal = first(held.refusal, AGAINST_LIMITS);
+    let refused = held.refused.or(Some(Refused::AgainstLimits));
     for by in 1..8usize {
         count(&mut *tally, CUT);
-        let list = numbers::front(&numbers, less(whole, by));
-        compare(opened, list, market, refusal, &mut *tally);
+        let list = numbers::front(&numbers, whole.saturating_sub(by));
+        compare(opened, list, market, refused, &mut *tally);
     }
 }

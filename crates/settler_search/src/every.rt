@@ -8,7 +8,11 @@ fn judged(ticket: &[u8], settlement: &[u8; 15], ours: &[u8; 19]) -> usize {
         ticket,
         ascii::front(settlement, plain::settlement_length(ticket)),
     ) {
-        if ours.starts_with(settlement) { OURS } else { OTHER }
+        if ours.starts_with(settlement) {
+            OURS
+        } else {
+            OTHER
+        }
     } else {
         WRONG
     }

@@ -1,6 +1,6 @@
 // The search of each grid.
-use super::tally::TICKETS;
 use super::printed::{Grid, Settlements, Tickets};
+use super::tally::TICKETS;
 use super::{every, settled, worths};
 use plain::{Most, count, first_ticket, no_counts};
 use std::io;
