@@ -2,7 +2,9 @@
 use super::free::compare_free_hours;
 use super::judged::judged;
 use super::paper::{GROWER, PAIR, PILOT, Refused, answered, value};
-use super::tally::{ACCEPTED, AGAINST_LIMITS, NO_PARTY, NUMBERS_LEFT, OTHER_ANSWER, OTHER_TICKET};
+use super::tally::{
+    ACCEPTED, AGAINST_LIMITS, CHANGED, NO_PARTY, NUMBERS_LEFT, OTHER_ANSWER, OTHER_TICKET,
+};
 use open_market::{Market, Terms};
 use plain::count;
 use reader::Refusal;
