@@ -22,6 +22,7 @@ fn earned(
     ensures { result ≡ earned_in tariff_hours free_deal_hours tariff whole given partners }
 {
     let mut total: u64 = 0;
+    // by index: the same place of five rows
     for l in 0..partners {
         let by_tariff = product(tariff_hours[l], tariff[l]);
         let share = whole[l].saturating_sub(given[l]);
@@ -50,6 +51,7 @@ fn earnings(
     ensures { (p : ℕ) → p < count → get_or result p 0 ≡ earned_at tariff_hours free_deal_hours tariff whole given partners p }
 {
     let mut all = no_earnings();
+    // by index: the same row of five squares, and the place that it fills
     for p in 0..count {
         all[p] = earned(
             tariff_hours[p],

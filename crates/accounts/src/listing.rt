@@ -23,6 +23,7 @@ fn narrow(amount: u64) -> u32
     requires { amount ≤ most_earned }
     ensures { (result ≡ amount) × (result ≤ most_earned) }
 {
+    // `as`: no more than is ever earned, so that no test is left for `try_from`
     amount as u32
 }
 
@@ -38,6 +39,7 @@ pub(crate) fn list_gains(list: &mut [u32; 48], gains: [u64; 16], growers: usize)
     requires { (growers ≤ 16) × Small gains growers }
     ensures { Listed list.old list.new 0 (each (λ i. gain_listed (get_or gains i 0)) growers) }
 {
+    // by index: a place is written where another list is read
     for i in 0..growers {
         list[i] = narrow(gains[i]);
     }
@@ -48,6 +50,7 @@ pub(crate) fn list_pays(list: &mut [u32; 48], from: usize, pays: [u64; 16], pilo
     requires { (from ≤ 16) × (pilots ≤ 16) × Small pays pilots }
     ensures { Listed list.old list.new from (each (λ j. pay_listed (get_or pays j 0)) pilots) }
 {
+    // by index: two places are written for each pay
     for j in 0..pilots {
         let pay = narrow(pays[j]);
         let place = from + 2 * j;

@@ -86,6 +86,7 @@ pub fn replay(market: Market, calls: &[u16]) -> (Result<(), Refusal>, Market)
     let end = count(calls);
     let mut first = Ok(());
     let mut last = market;
+    // by number: the last call may be cut short, and counts
     for k in 0..end {
         let (refusal, next) = call_next(first, last, calls, CALL * k);
         first = refusal;

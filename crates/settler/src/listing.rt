@@ -10,6 +10,7 @@ fn count(x: usize) -> u16
     requires { x ≤ 16 }
     ensures { result ≡ x }
 {
+    // `as`: at most 16, so that no test is left for `try_from`
     x as u16
 }
 
@@ -38,6 +39,7 @@ pub(crate) fn list_settlement(
 {
     write_three(&mut *list, 0, SETTLEMENT, count(growers), count(pilots));
     let pairs = growers * pilots;
+    // by index: the place of pair k in the list, and its cell in three squares
     for k in 0..pairs {
         let i = k / pilots;
         let j = k % pilots;

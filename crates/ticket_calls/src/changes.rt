@@ -49,6 +49,7 @@ fn clear(ticket: &mut [u16; 1315], party: Party)
     ensures { ticket.new ≡ without_deals party ticket.old }
 {
     let count = partners(&*ticket, party);
+    // by number: partner k, whose numbers are written where the list is read; `as`: at most 16
     for k in 0..count {
         change_terms(&mut *ticket, party, k as u16, no_terms());
     }

@@ -27,6 +27,7 @@ fn cheapest(
 {
     let count = numbers::within(partners);
     let mut best = spare;
+    // by index: the same place of four rows
     for l in 0..count {
         let by_tariff = count_in(best, tariff[l], earned[l]);
         best = count_in(by_tariff, free[l], share[l]);

@@ -26,6 +26,7 @@ pub(crate) fn narrow_pairs(ticket: &mut [u16; 1315], windows: &[u16])
     let growers = entry(&*ticket, 1);
     let pilots = entry(&*ticket, 2);
     let common = window_lists::common_hours(windows, growers, pilots);
+    // by number: grower i and pilot j are named to a call that writes the list
     for i in 0..growers {
         for j in 0..pilots {
             let hours = grid::cell(common, usize::from(i), usize::from(j));
