@@ -1,5 +1,6 @@
 // Whether the deals of growers and pilots are as a certificate wants them. Tests are joined without branches, and sums are avoided, so that
-// all of it stays in rows of 16 bits.
+// all of it stays in rows of 16 bits. Loops go by index: a partner stands at the same place of eleven rows, and a grower has the same row of
+// eight squares.
 ghost use Rattle.std.specs.Prelude.{◌≡◌, ◌+◌, ◌<◌, ◌≤◌, leb};
 ghost use Rattle.certificate.specs.Certified.{feasible, worthwhile, tariff_kept, free_kept, pair_kept};
 ghost use Rattle.certificate.specs.Rows.{row_kept, sides_kept};

@@ -1,4 +1,4 @@
-// What everybody's hours are worth to him at least.
+// What everybody's hours are worth to him at least. Loops go by index: a partner stands at the same place of two or four rows.
 ghost use Rattle.std.specs.Prelude.{◌≡◌, ◌≤◌};
 ghost use Rattle.certificate.specs.Certified.{worth_of, least_of};
 ghost use Rattle.certificate.specs.Rows.{used_in, least_in, IsSide};

@@ -12,7 +12,7 @@ fn between(low: u32, high: u32, rate: u32) -> u64
     u64::from(high.saturating_sub(low)) * u64::from(rate.min(1000))
 }
 
-// What bands charge on `x` cents, at most 1,000 per mille.
+// What bands charge on `x` cents, at most 1,000 per mille. By place: a band is two numbers, and the last one is known by its place.
 pub fn charge(bands: &[u32], x: u32) -> u64
     ensures { (result ≡ charged bands.now x) × (result ≤ 1000 * x) }
 {

@@ -25,7 +25,7 @@ pub fn has_tariff_deal(growers: usize, pilots: usize, tariff_cap: [[u16; 16]; 16
     false
 }
 
-// The joint gain of all hours in free deals.
+// The joint gain of all hours in free deals. Both indices are needed: the cell (i, j) of two squares at once.
 fn gain_total(
     growers: usize,
     pilots: usize,
