@@ -71,6 +71,23 @@ impl<'a> Text for MarkLine<'a> {
     }
 }
 
+// A line for each fault.
+#[derive(Clone, Copy)]
+struct FaultLines<'a> {
+    label: Label<'a>,
+    faults: &'a [Verdict],
+}
+
+impl<'a> Text for FaultLines<'a> {
+    fn write<W: Write>(&self, out: &mut W) -> Written<()> {
+        for &verdict in self.faults {
+            self.label.write(out)?;
+            FaultLine { verdict }.write(out)?;
+        }
+        Ok(())
+    }
+}
+
 // What is said after the line of the verdict: all faults, what the verdict means, or nothing.
 #[derive(Clone, Copy)]
 enum More<'a> {
@@ -93,11 +110,8 @@ impl<'a> Text for Marked<'a> {
         self.line.write(out)?;
         match self.more {
             More::Faults(faults) => {
-                for &verdict in faults {
-                    self.label.write(out)?;
-                    FaultLine { verdict }.write(out)?;
-                }
-                Ok(())
+                let label = self.label;
+                FaultLines { label, faults }.write(out)
             }
             More::Meaning(explained) => explained.write(out),
             More::Nothing => Ok(()),
