@@ -191,12 +191,12 @@ fn refuse(
     Ok(Status::Failed)
 }
 
-fn judge(
+fn judge<'x>(
     rt: &HostRuntime,
-    marking: Marking,
-    name: &[u8],
-    settlement: &[u8],
-    agreed: &[u16],
+    marking: Marking<'x>,
+    name: &'x [u8],
+    settlement: &'x [u8],
+    agreed: &'x [u16],
 ) -> Result<Status, Told> {
     let asked = marking.asked;
     let ticket = marking.ticket;

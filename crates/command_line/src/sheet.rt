@@ -47,6 +47,14 @@ fn print_object(
     print(rt, &SheetObject { settled, count })
 }
 
+// The names for the table, none if no file is named.
+fn read_names<'a>(rt: &HostRuntime, asked: Asked, text: &'a mut [u8]) -> Result<&'a [u8], Told> {
+    match asked.names {
+        None => Ok(ascii::front(text, 0)),
+        Some(argument) => files::read(rt, word_at(rt, argument).bytes(), text),
+    }
+}
+
 // The account is that of a sound settlement.
 fn print_table(
     rt: &HostRuntime,
@@ -56,10 +64,7 @@ fn print_table(
     settlement: &[u8],
 ) -> Result<(), Told> {
     let mut text = [0u8; 65536];
-    let names = match asked.names {
-        None => b"".as_slice(),
-        Some(argument) => files::read(rt, word_at(rt, argument).bytes(), &mut text)?,
-    };
+    let names = read_names(rt, asked, &mut text)?;
     match accounts::account(ticket, settlement) {
         Ok(account) => {
             let amounts = account.list;
