@@ -191,44 +191,62 @@ fn refuse(
     Ok(Status::Failed)
 }
 
+// Says what a settlement is that was read.
+fn tell<'x>(
+    rt: &HostRuntime,
+    asked: Asked,
+    name: &'x [u8],
+    ticket: &'x [u8],
+    settlement: &'x [u8],
+    settled: Settled<'x>,
+    verdict: Verdict,
+    faults: &'x [Verdict],
+) -> Result<(), Told> {
+    if asked.json {
+        let faults = if asked.all { Some(faults) } else { None };
+        return print(
+            rt,
+            &MarkedObject {
+                name,
+                verdict,
+                faults,
+            },
+        );
+    }
+    let more = if asked.all {
+        More::Faults(faults)
+    } else if 2 < asked.operands {
+        More::Nothing
+    } else {
+        More::Meaning(Explained { settled, verdict })
+    };
+    let marked = Marked {
+        label: label_of(asked, name),
+        line: MarkLine { ticket, settlement },
+        more,
+    };
+    print(rt, &marked)
+}
+
 fn judge<'x>(
     rt: &HostRuntime,
-    marking: Marking<'x>,
+    asked: Asked,
     name: &'x [u8],
+    ticket: &'x [u8],
+    terms: &'x [u16],
     settlement: &'x [u8],
     agreed: &'x [u16],
 ) -> Result<Status, Told> {
-    let asked = marking.asked;
-    let ticket = marking.ticket;
     let settled = Settled {
-        ticket: marking.terms,
+        ticket: terms,
         settlement: agreed,
     };
     let verdict = marker::mark(ticket, settlement);
     let list = listed(rt, asked, name, settled)?;
     let faults = list.as_slice();
-    if asked.json {
-        let object = MarkedObject {
-            name,
-            verdict,
-            faults: if asked.all { Some(faults) } else { None },
-        };
-        print(rt, &object)?;
-    } else {
-        let more = if asked.all {
-            More::Faults(faults)
-        } else if 2 < asked.operands {
-            More::Nothing
-        } else {
-            More::Meaning(Explained { settled, verdict })
-        };
-        let marked = Marked {
-            label: label_of(asked, name),
-            line: MarkLine { ticket, settlement },
-            more,
-        };
-        print(rt, &marked)?;
-    }
+    tell(
+        rt, asked, name, ticket, settlement, settled, verdict, faults,
+    )?;
     Ok(Status::from(verdict))
 }
 
@@ -247,8 +265,10 @@ fn mark_operand(rt: &HostRuntime, marking: Marking, place: usize) -> Result<Stat
     match reader::read_settlement(settlement, growers, pilots, &mut agreed) {
         Ok(count) => judge(
             rt,
-            marking,
+            asked,
             name,
+            marking.ticket,
+            marking.terms,
             settlement,
             numbers::front(&agreed, count),
         ),
