@@ -3,9 +3,8 @@
 use Rattle.std.specs.Prelude.{Result, Ok}
 use Rattle.checks.specs.declared.refusals.Refusal.{Refusal}
 use Prim.Native.Nat.{ℕ, ◌+◌, ◌*◌}
-use mathlib.Core.Path.{◌≡◌, refl, sym, ap, ap₂, ◌∙◌}
+use mathlib.Core.Path.{◌≡◌, refl, sym, ap₂, ◌∙◌}
 use mathlib.Core.List.{List}
-use lib.ListN.{length}
 use Rattle.grid.specs.Sum.{sum}
 use Rattle.grid.proofs.Cases.{never}
 use Rattle.grid.proofs.Sums.{sum_same}

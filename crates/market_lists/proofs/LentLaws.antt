@@ -20,7 +20,7 @@ use Rattle.reader.proofs.Facts.{written_front}
 use Rattle.reader.proofs.Telling.{refuses, counts}
 use Rattle.open_market.specs.declared.held.Market.{Market}
 use Rattle.open_market.specs.Markets.{Opened, Replayed}
-use Rattle.market_lists.specs.Lent.{market_length, numbers_in, part, market_in, outcome_of, OpenedIn, call_reply, call_on_paper, CalledIn, file_of}
+use Rattle.market_lists.specs.Lent.{market_length, numbers_in, part, market_in, OpenedIn, call_reply, call_on_paper, CalledIn, file_of}
 use Rattle.market_lists.specs.Lent.{WrittenFrom}
 
 -- A list written over another of its length.

@@ -4,13 +4,10 @@ use Rattle.std.specs.Prelude.{Result, Ok, Err}
 use Rattle.checks.specs.declared.refusals.Refusal.{Refusal}
 use Rattle.checks.specs.Refusals.{Checked}
 use Prim.Native.Nat.{ℕ, min}
-use mathlib.Core.Logic.{⊎_elim}
 use mathlib.Core.Path.{◌≡◌, refl, sym, subst, ap, ◌∙◌}
 use mathlib.Core.List.{List, [], ◌∷◌}
-use native.Mathlib.Omega.{arith}
 use lib.ListN.{length, replicate, length-replicate}
 use lib.Seq.{sets}
-use Rattle.grid.proofs.Cases.{eq_or_ne}
 use Rattle.groups.specs.Groups.{pack}
 use Rattle.market.specs.Market.{Ticket, Settlement, Sound}
 use Rattle.market.specs.Same.{SameSettlement}

@@ -4,14 +4,12 @@ use Rattle.std.specs.Prelude.{Ok, Err}
 use Rattle.checks.specs.declared.refusals.Refusal.{Refusal}
 use Rattle.checks.specs.Refusals.{Checked}
 use Prim.Native.Nat.{ℕ, ◌≤◌, ◌<◌}
-use mathlib.Core.Logic.{⊎_elim}
 use mathlib.Core.Path.{◌≡◌, refl, sym, subst, ap, ◌∙◌}
 use mathlib.Core.List.{List, ◌++◌}
 use native.Mathlib.Omega.{arith}
 use borrow.Author.Tests.{le-leb}
 use lib.ListN.{get_or, take, drop, length, get_or-append}
 use lib.Seq.{sets, length-sets, take_at}
-use Rattle.grid.proofs.Cases.{eq_or_ne}
 use Rattle.numbers.proofs.Products.{prod_small}
 use Rattle.reader.specs.Answer.{unpacked, reply, kept}
 use Rattle.reader.proofs.Facts.{written_front, unpacked_shape, reply_done}

@@ -3,12 +3,9 @@
 use Rattle.std.specs.Prelude.{Ok, Err}
 use Rattle.checks.specs.Refusals.{Checked, giving}
 use Prim.Native.Nat.{ℕ, ◌+◌, ◌*◌, ◌-◌, ◌≤◌, ◌<◌, min}
-use mathlib.Core.Bool.{Bool, true, false, cond}
 use mathlib.Core.Path.{◌≡◌, refl, sym, ap, ◌∙◌}
 use mathlib.Core.List.{List}
 use native.Mathlib.Omega.{arith}
-use borrow.Author.Tests.{eqb-true}
-use lib.Dec.{eqb}
 use lib.ListN.{get_or, length}
 use Rattle.grid.proofs.Cases.{never}
 use Rattle.groups.specs.Groups.{pack}

@@ -1,5 +1,5 @@
 -- `windows::narrow_numbers` meets its contract: the windows are refused, or the pairs narrowed and packed.
-use mathlib.Core.Path.{◌∙◌, sym}
+use mathlib.Core.Path.{sym}
 use Rattle.windows.proofs.Answering.{narrowed_answers}
 use Rattle.windows.proofs.narrow_numbers.Goals as goal
 

@@ -1,5 +1,4 @@
 -- `c_answers::lending::lend_account` meets its contract: the account is refused, or lent.
-use mathlib.Core.Path.{sym}
 use Rattle.scanning.proofs.Running.{met_is}
 use Rattle.c_answers.proofs.AccountLaws.{account_refused, account_listed, account_fits}
 use Rattle.c_answers.proofs.lending.lend_account.Goals as goal

@@ -1,5 +1,5 @@
 -- `open_market::opening::open` meets its contract: the ticket's bytes are refused, or unpacked and settled.
-use mathlib.Core.Path.{refl, sym, ◌∙◌}
+use mathlib.Core.Path.{refl}
 use Rattle.scanning.proofs.Running.{met_is}
 use Rattle.open_market.proofs.CallLaws.{opened_refused, opened_done}
 use Rattle.open_market.proofs.opening.open.Goals as goal
