@@ -10,23 +10,23 @@ use Rattle.checks.specs.Refusals.{Checked}
 use Rattle.grid.proofs.Cases.{never}
 use Rattle.documents.specs.Walk.{Form, Taken, Refused, Took, read_head, unless, with, next, closed, final, walk, rest, form}
 
--- With c appended to its source, what was taken is taken, and c is left too; a refusal other than `ends` stays.
+-- With c appended to its source, what was taken is taken, and c is left too; a refusal other than `early` stays.
 abbrev More : Refusal → List ℕ → Taken → Taken → Type 0
-More ends c (Refused w) t = (w ≡ ends → ⊥) → t ≡ Refused w
-More ends c (Took xs b) t = t ≡ Took xs (b ++ c)
+More early c (Refused w) t = (w ≡ early → ⊥) → t ≡ Refused w
+More early c (Took xs b) t = t ≡ Took xs (b ++ c)
 
-more_unless : (ends : Refusal) (c : List ℕ) (f : Checked) (t u : Taken) → More ends c t u → More ends c (unless f t) (unless f u)
-more_unless ends c (Ok x) t u m = m
-more_unless ends c (Err w) t u m = λ h. refl
+more_unless : (early : Refusal) (c : List ℕ) (f : Checked) (t u : Taken) → More early c t u → More early c (unless f t) (unless f u)
+more_unless early c (Ok x) t u m = m
+more_unless early c (Err w) t u m = λ h. refl
 
-more_with : (ends : Refusal) (c xs : List ℕ) (t u : Taken) → More ends c t u → More ends c (with xs t) (with xs u)
-more_with ends c xs (Refused w) u m = λ h. ap (with xs) (m h)
-more_with ends c xs (Took ys b) u m = ap (with xs) m
+more_with : (early : Refusal) (c xs : List ℕ) (t u : Taken) → More early c t u → More early c (with xs t) (with xs u)
+more_with early c xs (Refused w) u m = λ h. ap (with xs) (m h)
+more_with early c xs (Took ys b) u m = ap (with xs) m
 
-more_next : (ends : Refusal) (c : List ℕ) (t u : Taken) (go : List ℕ → List ℕ → Taken) →
-    ((xs b : List ℕ) → More ends c (go xs b) (go xs (b ++ c))) → More ends c t u → More ends c (next t go) (next u go)
-more_next ends c (Refused w) u go g m = λ h. ap (λ (t : Taken). next t go) (m h)
-more_next ends c (Took xs b) u go g m = rw m (more_with ends c xs (go xs b) (go xs (b ++ c)) (g xs b))
+more_next : (early : Refusal) (c : List ℕ) (t u : Taken) (go : List ℕ → List ℕ → Taken) →
+    ((xs b : List ℕ) → More early c (go xs b) (go xs (b ++ c))) → More early c t u → More early c (next t go) (next u go)
+more_next early c (Refused w) u go g m = λ h. ap (λ (t : Taken). next t go) (m h)
+more_next early c (Took xs b) u go g m = rw m (more_with early c xs (go xs b) (go xs (b ++ c)) (g xs b))
 
 module _ (F : Form) (c : List ℕ) where
   more_walk : (k : ℕ) (s : F.State) (a : List ℕ) →

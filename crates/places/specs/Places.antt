@@ -11,8 +11,8 @@ use Rattle.documents.specs.Layout.{form_of}
 
 -- It is refused, and not because it ends early.
 abbrev pub refused_otherwise : Refusal → Outcome → Bool
-refused_otherwise ends (Err w) = not (same w ends)
-refused_otherwise ends (Ok xs) = false
+refused_otherwise early (Err w) = not (same w early)
+refused_otherwise early (Ok xs) = false
 
 -- A beginning of a list is faulty.
 abbrev pub faulty : Document → List ℕ → Bool
