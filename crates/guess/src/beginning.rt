@@ -1,71 +1,94 @@
-// The state before anybody asks, and what is taken from it at the end. Loops go by index: a grower has the same row of several squares.
+// The state before anybody asks, and what is taken from it at the end.
 use crate::rows;
-use crate::state::{ALL, Row, Square, State};
+use crate::state::{
+    ASKED, BITS, FREE_CAP, FREE_DEAL_HOURS, FREE_OPEN, GROWER_FREE, HAS_TARIFFS, JOINT_GAIN, MOST,
+    PAID, PILOT_FREE, PRICE, ROWS, SHARED, State, TARIFF_CAP, TARIFF_GAIN, TARIFF_OPEN, TARIFF_PAY,
+    WORST, all_ones, bits, set,
+};
 
-// The ticket as it is, and nobody holds an hour.
-pub(crate) fn state(
-    grower_hours: Row,
-    pilot_hours: Row,
-    tariff_cap: Square,
-    tariff_gain: Square,
-    tariff_pay: Square,
-    free_cap: Square,
-    joint_gain: Square,
-) -> State {
-    let none = grid::zeros();
-    let nobody = grid::zero_row();
-    let prices = rows::prices(&pilot_hours);
-    State {
-        tariff_cap,
-        tariff_gain,
-        tariff_pay,
-        free_cap,
-        joint_gain,
-        tariff_open: none,
-        free_open: none,
-        tariff_hours: none,
-        free_deal_hours: none,
-        paid: [[ALL; 16]; 16],
-        shared: [[ALL; 16]; 16],
-        price: prices,
-        asked: prices,
-        worst: [ALL; 16],
-        pilot_free: pilot_hours,
-        grower_free: grower_hours,
-        most: [ALL; 16],
-        has_tariffs: nobody,
-        reached: nobody,
-        joins: nobody,
-        ways: nobody,
-        worths: nobody,
-        with: nobody,
-        looks: nobody,
-        unseen: nobody,
-        bits: [
-            1, 2, 4, 8, 16, 32, 64, 128, 256, 512, 1024, 2048, 4096, 8192, 16384, 32768,
-        ],
+fn no_hours(s: &mut State) {
+    let none = all_ones();
+    s[ROWS][WORST] = none;
+    s[ROWS][MOST] = none;
+    s[PAID] = [none; 16];
+    s[SHARED] = [none; 16];
+}
+
+fn begin_prices(s: &mut State, pilot_hours: &[u16; 16]) {
+    let mut prices = grid::zero_row();
+    rows::prices(pilot_hours, &mut prices);
+    s[ROWS][PRICE] = prices;
+    s[ROWS][ASKED] = prices;
+}
+
+pub(crate) fn parties(s: &mut State, grower_hours: [u16; 16], pilot_hours: [u16; 16]) {
+    no_hours(&mut *s);
+    begin_prices(&mut *s, &pilot_hours);
+    s[ROWS][GROWER_FREE] = grower_hours;
+    s[ROWS][PILOT_FREE] = pilot_hours;
+    s[ROWS][BITS] = bits();
+}
+
+fn tariff_row(s: &mut State, i: usize) {
+    let cap = s[TARIFF_CAP][i % 16];
+    let mut gain = s[TARIFF_GAIN][i % 16];
+    let mut room = cap;
+    rows::one_more(&mut gain);
+    rows::where_any(&cap, &gain, &mut room);
+    s[TARIFF_GAIN][i % 16] = gain;
+    s[TARIFF_OPEN][i % 16] = room;
+    set(s, HAS_TARIFFS, i, rows::greatest(&room));
+}
+
+pub(crate) fn tariffs(
+    s: &mut State,
+    growers: usize,
+    cap: [[u16; 16]; 16],
+    gain: [[u16; 16]; 16],
+    pay: [[u16; 16]; 16],
+) {
+    s[TARIFF_CAP] = cap;
+    s[TARIFF_GAIN] = gain;
+    s[TARIFF_PAY] = pay;
+    for i in 0..growers {
+        tariff_row(&mut *s, i);
     }
 }
 
-// Gains become offers, and deals with a cap are open.
-pub(crate) fn offers(s: &mut State, growers: usize) {
+fn free_row(s: &mut State, i: usize) {
+    let cap = s[FREE_CAP][i % 16];
+    let mut gain = s[JOINT_GAIN][i % 16];
+    let mut room = cap;
+    rows::one_more(&mut gain);
+    rows::where_any(&cap, &gain, &mut room);
+    s[JOINT_GAIN][i % 16] = gain;
+    s[FREE_OPEN][i % 16] = room;
+}
+
+pub(crate) fn free_deals(
+    s: &mut State,
+    growers: usize,
+    cap: [[u16; 16]; 16],
+    joint_gain: [[u16; 16]; 16],
+) {
+    s[FREE_CAP] = cap;
+    s[JOINT_GAIN] = joint_gain;
     for i in 0..growers {
-        let by_tariff = rows::one_more(&s.tariff_gain[i % 16]);
-        let open = rows::where_any(&s.tariff_cap[i % 16], &by_tariff);
-        let free = rows::one_more(&s.joint_gain[i % 16]);
-        s.tariff_gain[i % 16] = by_tariff;
-        s.tariff_open[i % 16] = open;
-        s.has_tariffs[i % 16] = rows::greatest(&open);
-        s.joint_gain[i % 16] = free;
-        s.free_open[i % 16] = rows::where_any(&s.free_cap[i % 16], &free);
+        free_row(&mut *s, i);
     }
+}
+
+fn pay_row(s: &State, i: usize) -> [u16; 16] {
+    let mut pay = grid::zero_row();
+    rows::where_any(&s[FREE_DEAL_HOURS][i % 16], &s[ROWS][PRICE], &mut pay);
+    pay
 }
 
 // The price, where there are free-deal hours.
-pub(crate) fn pays(s: &State, growers: usize) -> Square {
+pub(crate) fn pays(s: &State, growers: usize) -> [[u16; 16]; 16] {
     let mut pay = grid::zeros();
     for i in 0..growers {
-        pay[i % 16] = rows::where_any(&s.free_deal_hours[i % 16], &s.price);
+        pay[i % 16] = pay_row(s, i);
     }
     pay
 }

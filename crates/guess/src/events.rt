@@ -1,6 +1,10 @@
 // What can happen while prices rise in a search. All times are by how much the prices of the pilots reached have risen.
 use crate::rows;
-use crate::state::{ALL, State};
+use crate::saturating::{ALL, plus};
+use crate::state::{
+    ASKED, FREE_OPEN, JOINS, LOOKS, MOST, PRICE, REACHED, ROWS, SHARED, State, UNSEEN, WAYS, WITH,
+    WORST, WORTHS, all_ones, of, set,
+};
 
 // A search: who asks, what his best offer was, how far prices have risen, when a tariff hour of a pilot reached becomes late and whose,
 // and when the one who asks is to be looked at.
@@ -15,48 +19,94 @@ pub(crate) struct Progress {
 }
 
 pub(crate) fn clear(s: &mut State) {
+    let never = all_ones();
     let none = grid::zero_row();
-    s.reached = none;
-    s.joins = [ALL; 16];
-    s.worths = [ALL; 16];
-    s.looks = [ALL; 16];
-    s.unseen = none;
+    s[ROWS][REACHED] = none;
+    s[ROWS][JOINS] = never;
+    s[ROWS][WORTHS] = never;
+    s[ROWS][LOOKS] = never;
+    s[ROWS][UNSEEN] = none;
+}
+
+// A row is lowered; and a value is noted in a row, wherever another was lowered.
+fn lower(s: &mut State, row: usize, by: &[u16; 16]) {
+    let mut lowered = s[ROWS][row % 16];
+    rows::lower(&mut lowered, by);
+    s[ROWS][row % 16] = lowered;
+}
+
+fn note(s: &mut State, row: usize, by: &[u16; 16], value: u16) {
+    let mut noted = s[ROWS][row % 16];
+    rows::note(&mut noted, by, value);
+    s[ROWS][row % 16] = noted;
+}
+
+// By how much the free deals of a grower tie sooner than others do.
+fn ties_sooner(s: &State, i: usize, worth: u16, now: u16, sooner: &mut [u16; 16]) {
+    let mut times = grid::zero_row();
+    let reached = &s[ROWS][REACHED];
+    rows::times(
+        &s[FREE_OPEN][i % 16],
+        &s[ROWS][PRICE],
+        reached,
+        worth,
+        now,
+        &mut times,
+    );
+    rows::differences(&s[ROWS][JOINS], &times, sooner);
 }
 
 // When free deals tie with an hour that is worth so much now and falls.
 pub(crate) fn tie(s: &mut State, i: usize, worth: u16, now: u16, mark: u16) {
-    let times = rows::times(&s.free_open[i % 16], &s.price, &s.reached, worth, now);
-    let sooner = rows::differences(&s.joins, &times);
-    s.joins = rows::differences(&s.joins, &sooner);
-    s.ways = rows::noted(&s.ways, &sooner, mark);
+    let mut sooner = grid::zero_row();
+    ties_sooner(s, i, worth, now, &mut sooner);
+    lower(&mut *s, JOINS, &sooner);
+    note(&mut *s, WAYS, &sooner, mark);
 }
 
-// The growers who hold free-deal hours with a pilot who is reached now, and whose least hours are those with him, are to be looked at anew.
+// What the free-deal hours of growers with pilot j are worth, and by how much that is less than what is known of those reached before.
+fn worths_with(s: &State, j: usize, worth: &mut [u16; 16], by: &mut [u16; 16]) {
+    rows::worths(&s[SHARED][j % 16], of(s, PRICE, j), &mut *worth);
+    rows::differences(&s[ROWS][WORTHS], worth, by);
+}
+
+fn note_looks(s: &mut State, by: &[u16; 16], worth: &[u16; 16], now: u16) {
+    let most = s[ROWS][MOST];
+    let mut looks = s[ROWS][LOOKS];
+    rows::look_times(&mut looks, by, worth, &most, now);
+    s[ROWS][LOOKS] = looks;
+}
+
+// The growers whose least hours are those with pilot j are to be looked at anew.
+fn note_growers(s: &mut State, by: &[u16; 16], j: usize) {
+    lower(&mut *s, WORTHS, by);
+    note(&mut *s, WITH, by, (j % 16) as u16);
+    note(&mut *s, UNSEEN, by, ALL);
+}
+
+// The growers who hold free-deal hours with a pilot who is reached now.
 fn reach_growers(s: &mut State, j: usize, now: u16) {
-    let worth = rows::worths(&s.shared[j % 16], s.price[j % 16]);
-    let by = rows::differences(&s.worths, &worth);
-    s.looks = rows::look_times(&s.looks, &by, &worth, &s.most, now);
-    s.worths = rows::differences(&s.worths, &by);
-    s.with = rows::noted(&s.with, &by, (j % 16) as u16);
-    s.unseen = rows::noted(&s.unseen, &by, ALL);
+    let mut worth = grid::zero_row();
+    let mut by = grid::zero_row();
+    worths_with(s, j, &mut worth, &mut by);
+    note_looks(&mut *s, &by, &worth, now);
+    note_growers(&mut *s, &by, j);
 }
 
 fn late_time(s: &State, progress: Progress, j: usize) -> u16 {
-    let worst = s.worst[j % 16];
+    let worst = of(s, WORST, j);
     if worst == ALL {
         ALL
     } else {
-        worst
-            .saturating_sub(s.price[j % 16])
-            .saturating_add(progress.now)
+        plus(worst.saturating_sub(of(s, PRICE, j)), progress.now)
     }
 }
 
 // The price of pilot j begins to rise.
 pub(crate) fn reach(s: &mut State, progress: Progress, j: usize) -> Progress {
     let mut next = progress;
-    s.joins[j % 16] = ALL;
-    s.reached[j % 16] = ALL;
+    set(&mut *s, JOINS, j, ALL);
+    set(&mut *s, REACHED, j, ALL);
     let late = late_time(s, progress, j);
     if late < progress.late {
         next.late = late;
@@ -66,14 +116,27 @@ pub(crate) fn reach(s: &mut State, progress: Progress, j: usize) -> Progress {
     next
 }
 
+fn lift(s: &mut State, row: usize, by: u16) {
+    let reached = s[ROWS][REACHED];
+    let mut lifted = s[ROWS][row % 16];
+    rows::lift(&mut lifted, &reached, by);
+    s[ROWS][row % 16] = lifted;
+}
+
 // What the hours of growers reached are worth falls as prices rise. When they are worth nothing need not be a number of 16 bits.
+fn fall(s: &mut State, by: u16) {
+    let mut fallen = grid::zero_row();
+    rows::worths(&s[ROWS][WORTHS], by, &mut fallen);
+    s[ROWS][WORTHS] = fallen;
+}
+
 pub(crate) fn rise(s: &mut State, progress: Progress, at: u16) -> Progress {
     let mut next = progress;
     if progress.now < at {
         let by = at - progress.now;
-        s.price = rows::lifted(&s.price, &s.reached, by);
-        s.asked = rows::lifted(&s.asked, &s.reached, by);
-        s.worths = rows::worths(&s.worths, by);
+        lift(&mut *s, PRICE, by);
+        lift(&mut *s, ASKED, by);
+        fall(&mut *s, by);
         next.now = at;
     }
     next

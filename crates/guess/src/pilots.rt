@@ -1,25 +1,40 @@
 // Which of some pilots has what a grower looks for.
-use crate::sets::{first, without_first};
-use crate::state::State;
+use crate::deals::{has_late, takes_tariff};
+use crate::sets::{NOBODY, first, without_first};
+use crate::state::{PILOT_FREE, State, of};
 
-pub(crate) fn has_free(s: &State, j: usize) -> bool {
-    0 < s.pilot_free[j % 16]
+// A late hour; a late or a free one; a tariff deal that offers the grower at least so much.
+#[derive(Clone, Copy)]
+pub(crate) enum Wanted {
+    LateHour,
+    AnyRoom,
+    Tariff { grower: usize, worth: u16 },
 }
 
-// The first of some pilots who passes a test.
-pub(crate) fn first_with<F: Fn(usize) -> bool>(pilots: u32, passes: F) -> Option<usize>
-    requires { F.IsAlwaysCallable passes }
-{
+pub(crate) fn has_free(s: &State, j: usize) -> bool {
+    0 < of(s, PILOT_FREE, j)
+}
+
+fn has(s: &State, j: usize, wanted: Wanted) -> bool {
+    match wanted {
+        Wanted::LateHour => has_late(s, j),
+        Wanted::AnyRoom => has_free(s, j) | has_late(s, j),
+        Wanted::Tariff { grower, worth } => takes_tariff(s, grower, j, worth),
+    }
+}
+
+// The first of some pilots who has it, or nobody.
+pub(crate) fn first_with(s: &State, pilots: u32, wanted: Wanted) -> usize {
     let mut left = pilots;
     for step in 0..16usize {
         if left == 0 {
-            return None;
+            return NOBODY;
         }
         let j = first(left);
-        if passes(j) {
-            return Some(j);
+        if has(s, j, wanted) {
+            return j;
         }
         left = without_first(left);
     }
-    None
+    NOBODY
 }

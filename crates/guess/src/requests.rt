@@ -1,14 +1,12 @@
 // Growers ask one after another; who loses hours asks next.
-use crate::deals::{has_late, late_grower, more, room, settle_price, takes_tariff};
-use crate::moves::{Room, come, come_by_tariff};
-use crate::pilots::{first_with, has_free};
-use crate::rows;
+use crate::deals::{late_grower, more, room, settle_price, takes_tariff};
+use crate::moves::{Displaced, Room, come, come_by_tariff};
+use crate::pilots::{Wanted, first_with, has_free};
 use crate::search::search;
-use crate::sets::{bit, first, first_places, with, without, without_first};
-use crate::state::{SOURCE, State};
+use crate::sets::{NOBODY, bit, first, first_places, with, without, without_first};
+use crate::state::{GROWER_FREE, PILOT_FREE, SOURCE, State, of, places_in, set};
 use crate::tariffs::best_offers;
 use crate::ways::Way;
-use market::Deal;
 
 // How many requests a guess may take. Far more than was ever seen.
 const MOST_REQUESTS: usize = 20000;
@@ -22,17 +20,13 @@ struct Queue {
 
 // Hours for the grower with a pilot, as many as both have free and the deal has room for.
 fn add(s: &mut State, i: usize, j: usize, top: u16) {
-    let deal = if takes_tariff(s, i, j, top) {
-        Deal::Tariff
-    } else {
-        Deal::Free
-    };
-    let pilot_free = s.pilot_free[j % 16];
-    let grower_free = s.grower_free[i % 16];
-    let x = pilot_free.min(grower_free).min(room(s, deal, i, j));
-    s.pilot_free[j % 16] = pilot_free.saturating_sub(x);
-    s.grower_free[i % 16] = grower_free.saturating_sub(x);
-    more(&mut *s, deal, i, j, x);
+    let tariff = takes_tariff(s, i, j, top);
+    let pilot_free = of(s, PILOT_FREE, j);
+    let grower_free = of(s, GROWER_FREE, i);
+    let x = pilot_free.min(grower_free).min(room(s, tariff, i, j));
+    set(&mut *s, PILOT_FREE, j, pilot_free.saturating_sub(x));
+    set(&mut *s, GROWER_FREE, i, grower_free.saturating_sub(x));
+    more(&mut *s, tariff, i, j, x);
     settle_price(&mut *s, j);
 }
 
@@ -41,7 +35,7 @@ fn add_all(s: &mut State, i: usize, top: u16, ties: u32) -> bool {
     let mut left = ties;
     let mut added = false;
     for step in 0..16usize {
-        if (left == 0) | (s.grower_free[i % 16] == 0) {
+        if (left == 0) | (of(s, GROWER_FREE, i) == 0) {
             return added;
         }
         let j = first(left);
@@ -54,26 +48,33 @@ fn add_all(s: &mut State, i: usize, top: u16, ties: u32) -> bool {
     added
 }
 
-// Hours from full pilots: by the tariff, or in place of late hours, or else over the pilots who tie. Who gives up hours asks next.
-fn serve(s: &mut State, i: usize, top: u16, ties: u32) -> Option<usize> {
-    let by_tariff = first_with(ties, |j| takes_tariff(s, i, j, top));
-    if let Some(j) = by_tariff {
+// Hours from full pilots: by the tariff, or in place of late hours, or else over the pilots who tie.
+fn serve(s: &mut State, i: usize, top: u16, ties: u32) -> Displaced {
+    let by_tariff = first_with(
+        s,
+        ties,
+        Wanted::Tariff {
+            grower: i,
+            worth: top,
+        },
+    );
+    if by_tariff < NOBODY {
         let way = Way {
             grower: i,
             from: SOURCE,
-            deal: Deal::Tariff,
+            tariff: true,
         };
-        return come_by_tariff(&mut *s, i, way, j);
+        return come_by_tariff(&mut *s, i, way, by_tariff);
     }
-    let late = first_with(ties, |j| has_late(s, j));
-    if let Some(j) = late {
+    let late = first_with(s, ties, Wanted::LateHour);
+    if late < NOBODY {
         let way = Way {
             grower: i,
             from: SOURCE,
-            deal: Deal::Free,
+            tariff: false,
         };
-        let k = late_grower(s, j);
-        return come(&mut *s, i, way, j, Room::GivesUpTariff { k });
+        let k = late_grower(s, late);
+        return come(&mut *s, i, way, late, Room::GivesUpTariff { k });
     }
     search(&mut *s, i, top)
 }
@@ -85,13 +86,13 @@ fn leaves(queue: Queue, i: usize) -> Queue {
     }
 }
 
-fn follows(queue: Queue, i: usize, displaced: Option<usize>) -> Queue {
+fn follows(queue: Queue, i: usize, displaced: Displaced) -> Queue {
     match displaced {
-        None => Queue {
+        Displaced::Nobody => Queue {
             waiting: queue.waiting,
             next: i,
         },
-        Some(k) => Queue {
+        Displaced::Grower { k } => Queue {
             waiting: with(queue.waiting, k),
             next: k,
         },
@@ -100,12 +101,12 @@ fn follows(queue: Queue, i: usize, displaced: Option<usize>) -> Queue {
 
 // A grower with free hours asks the pilots whose offers are best. An offer of 1 is no more than a free hour is worth.
 fn ask(s: &mut State, queue: Queue, i: usize) -> Queue {
-    let offers = best_offers(&mut *s, i);
-    let top = rows::greatest(&offers);
+    let mut offers = grid::zero_row();
+    let top = best_offers(&mut *s, i, &mut offers);
     if top == 0 {
         return leaves(queue, i);
     }
-    let ties = rows::places(&offers, top, &s.bits);
+    let ties = places_in(s, &offers, top);
     if add_all(&mut *s, i, top, ties) {
         return Queue {
             waiting: queue.waiting,
@@ -129,7 +130,7 @@ fn next_grower(queue: Queue) -> usize {
 
 fn request(s: &mut State, queue: Queue) -> Queue {
     let i = next_grower(queue);
-    if s.grower_free[i % 16] == 0 {
+    if of(s, GROWER_FREE, i) == 0 {
         leaves(queue, i)
     } else {
         ask(&mut *s, queue, i)

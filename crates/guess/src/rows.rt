@@ -1,126 +1,230 @@
-// Rows: each function does the same at all sixteen places, so that it becomes vector code.
-ghost use Rattle.std.specs.Prelude.{ℕ, ◌<◌};
+// Rows: each loop does the same at all sixteen places, so that it becomes vector code.
+use crate::saturating::{ALL, greater, plus};
 
-use crate::state::{ABOVE_PRICES, ALL, Row};
+fn eight() -> [u16; 8] {
+    [0; 8]
+}
 
-// Sixteen numbers are folded in halves, by index: a fold of one after another is no vector code.
-fn folded<F: Fn(u16, u16) -> u16>(row: &Row, join: F) -> u16
-    requires { F.IsAlwaysCallable join }
-{
-    let mut half = [0u16; 8];
+// Sixteen numbers are folded in halves: a fold of one after another is no vector code.
+fn least_halves(row: &[u16; 16], half: &mut [u16; 8]) {
     for j in 0..8usize {
-        half[j] = join(row[j], row[j + 8]);
+        half[j] = row[j].min(row[j + 8]);
     }
-    let even = join(join(half[0], half[4]), join(half[2], half[6]));
-    let odd = join(join(half[1], half[5]), join(half[3], half[7]));
-    join(even, odd)
 }
 
-pub(crate) fn least(row: &Row) -> u16 {
-    folded(row, |x, y| x.min(y))
+fn least_quarter(half: &[u16; 8], j: usize) -> u16 {
+    half[j % 4].min(half[j % 4 + 4])
 }
 
-pub(crate) fn greatest(row: &Row) -> u16 {
-    folded(row, |x, y| x.max(y))
+pub(crate) fn least(row: &[u16; 16]) -> u16 {
+    let mut half = eight();
+    least_halves(row, &mut half);
+    let even = least_quarter(&half, 0).min(least_quarter(&half, 2));
+    let odd = least_quarter(&half, 1).min(least_quarter(&half, 3));
+    even.min(odd)
 }
 
-// The row of what `f` answers at each place. By index: closures read up to four rows at the same place.
-fn row_of<F: Fn(usize) -> u16>(f: F) -> Row
-    requires { (j : ℕ) → j < 16 → F.pre f j }
-{
-    let mut row = [0u16; 16];
-    for j in 0..16usize {
-        row[j] = f(j);
+fn greatest_halves(row: &[u16; 16], half: &mut [u16; 8]) {
+    for j in 0..8usize {
+        half[j] = greater(row[j], row[j + 8]);
     }
-    row
+}
+
+fn greatest_quarter(half: &[u16; 8], j: usize) -> u16 {
+    greater(half[j % 4], half[j % 4 + 4])
+}
+
+pub(crate) fn greatest(row: &[u16; 16]) -> u16 {
+    let mut half = eight();
+    greatest_halves(row, &mut half);
+    let even = greater(greatest_quarter(&half, 0), greatest_quarter(&half, 2));
+    let odd = greater(greatest_quarter(&half, 1), greatest_quarter(&half, 3));
+    greater(even, odd)
+}
+
+fn bit_if(number: u16, value: u16, bit: u16) -> u16 {
+    if number == value { bit } else { 0 }
+}
+
+fn place_halves(row: &[u16; 16], value: u16, bits: &[u16; 16], half: &mut [u16; 8]) {
+    for j in 0..8usize {
+        half[j] = bit_if(row[j], value, bits[j]) | bit_if(row[j + 8], value, bits[j + 8]);
+    }
+}
+
+fn place_quarter(half: &[u16; 8], j: usize) -> u16 {
+    half[j % 4] | half[j % 4 + 4]
 }
 
 // The places of a value. The bit of each place comes in a row of the state: written here, the bits are shifted one by one.
-pub(crate) fn places(row: &Row, value: u16, bits: &Row) -> u32 {
-    let marks = row_of(|j| if row[j] == value { bits[j] } else { 0 });
-    u32::from(folded(&marks, |x, y| x | y))
+pub(crate) fn places(row: &[u16; 16], value: u16, bits: &[u16; 16]) -> u32 {
+    let mut half = eight();
+    place_halves(row, value, bits, &mut half);
+    let even = place_quarter(&half, 0) | place_quarter(&half, 2);
+    let odd = place_quarter(&half, 1) | place_quarter(&half, 3);
+    u32::from(even | odd)
 }
 
 // One more than each.
-pub(crate) fn one_more(row: &Row) -> Row {
-    row_of(|j| row[j].saturating_add(1))
+pub(crate) fn one_more(row: &mut [u16; 16]) {
+    for j in 0..16usize {
+        row[j] = plus(row[j], 1);
+    }
+}
+
+fn chosen(test: u16, value: u16) -> u16 {
+    if test == 0 { 0 } else { value }
 }
 
 // The numbers where the test is not 0, else 0.
-pub(crate) fn where_any(test: &Row, row: &Row) -> Row {
-    row_of(|j| if test[j] == 0 { 0 } else { row[j] })
+pub(crate) fn where_any(test: &[u16; 16], row: &[u16; 16], to: &mut [u16; 16]) {
+    for j in 0..16usize {
+        to[j] = chosen(test[j], row[j]);
+    }
 }
 
-// To begin with: above every price for a pilot who has no hours at all.
-pub(crate) fn prices(hours: &Row) -> Row {
-    row_of(|j| if hours[j] == 0 { ABOVE_PRICES } else { 0 })
+fn price_to_begin(hours: u16) -> u16 {
+    if hours == 0 {
+        crate::state::ABOVE_PRICES
+    } else {
+        0
+    }
 }
 
-// What tariffs offer now.
-pub(crate) fn tariff_offers(open: &Row, pay: &Row, asked: &Row) -> Row {
-    row_of(|j| if asked[j] <= pay[j] { open[j] } else { 0 })
+// Above every price for a pilot who has no hours at all.
+pub(crate) fn prices(hours: &[u16; 16], to: &mut [u16; 16]) {
+    for j in 0..16usize {
+        to[j] = price_to_begin(hours[j]);
+    }
+}
+
+// What a tariff offers now.
+fn by_tariff(open: u16, pay: u16, asked: u16) -> u16 {
+    if asked <= pay { open } else { 0 }
+}
+
+pub(crate) fn tariff_offers(
+    tariff: &[u16; 16],
+    pay: &[u16; 16],
+    asked: &[u16; 16],
+    to: &mut [u16; 16],
+) {
+    for j in 0..16usize {
+        to[j] = by_tariff(tariff[j], pay[j], asked[j]);
+    }
 }
 
 // The better offer of each pilot, by tariff or free deal. Not in one loop with the tariffs: that would become branches.
-pub(crate) fn better_offers(free: &Row, price: &Row, by_tariff: &Row) -> Row {
-    row_of(|j| by_tariff[j].max(free[j].saturating_sub(price[j])))
+pub(crate) fn better_offers(
+    free: &[u16; 16],
+    price: &[u16; 16],
+    by_tariff: &[u16; 16],
+    to: &mut [u16; 16],
+) {
+    for j in 0..16usize {
+        to[j] = greater(by_tariff[j], free[j].saturating_sub(price[j]));
+    }
 }
 
 // The free deals of pilots who are not reached.
-pub(crate) fn unreached(free: &Row, reached: &Row) -> Row {
-    row_of(|j| free[j] & !reached[j])
+pub(crate) fn unreached(free: &[u16; 16], reached: &[u16; 16], to: &mut [u16; 16]) {
+    for j in 0..16usize {
+        to[j] = free[j] & !reached[j];
+    }
 }
 
 // When free deals tie with an hour that is worth so much now and falls.
-pub(crate) fn times(free: &Row, price: &Row, reached: &Row, worth: u16, now: u16) -> Row {
-    row_of(|j| worth
-        .saturating_sub(free[j].saturating_sub(price[j]))
-        .saturating_add(now)
-        | reached[j])
+pub(crate) fn times(
+    free: &[u16; 16],
+    price: &[u16; 16],
+    reached: &[u16; 16],
+    worth: u16,
+    now: u16,
+    to: &mut [u16; 16],
+) {
+    for j in 0..16usize {
+        to[j] = plus(worth.saturating_sub(free[j].saturating_sub(price[j])), now) | reached[j];
+    }
+}
+
+// What is kept where nothing is less.
+fn unless_less(by: u16, kept: u16, other: u16) -> u16 {
+    if by == 0 { kept } else { other }
 }
 
 // By how much each of the other numbers is less.
-pub(crate) fn differences(row: &Row, other: &Row) -> Row {
-    row_of(|j| row[j].saturating_sub(other[j]))
+pub(crate) fn differences(row: &[u16; 16], other: &[u16; 16], to: &mut [u16; 16]) {
+    for j in 0..16usize {
+        to[j] = row[j].saturating_sub(other[j]);
+    }
+}
+
+pub(crate) fn lower(row: &mut [u16; 16], by: &[u16; 16]) {
+    for j in 0..16usize {
+        row[j] = row[j].saturating_sub(by[j]);
+    }
 }
 
 // A value where something is less.
-pub(crate) fn noted(row: &Row, by: &Row, value: u16) -> Row {
-    row_of(|j| if by[j] == 0 { row[j] } else { value })
+pub(crate) fn note(row: &mut [u16; 16], by: &[u16; 16], value: u16) {
+    for j in 0..16usize {
+        row[j] = unless_less(by[j], row[j], value);
+    }
 }
 
 // After what time a tariff deal ties: what a pilot reached asks for rises meanwhile.
 fn wait(offer: u16, pay: u16, asked: u16, worth: u16, reached: u16) -> u16 {
     let wait = worth.saturating_sub(offer);
-    if asked.saturating_add(wait & reached) <= pay {
+    if plus(asked, wait & reached) <= pay {
         wait
     } else {
         ALL
     }
 }
 
-pub(crate) fn tariff_waits(offers: &Row, pay: &Row, asked: &Row, reached: &Row, worth: u16) -> Row {
-    row_of(|j| wait(offers[j], pay[j], asked[j], worth, reached[j]))
+pub(crate) fn tariff_waits(
+    offers: &[u16; 16],
+    pay: &[u16; 16],
+    asked: &[u16; 16],
+    reached: &[u16; 16],
+    worth: u16,
+    to: &mut [u16; 16],
+) {
+    for j in 0..16usize {
+        to[j] = wait(offers[j], pay[j], asked[j], worth, reached[j]);
+    }
 }
 
-// What hours are worth when so much is taken from them; all ones stay.
-pub(crate) fn worths(gain: &Row, by: u16) -> Row {
-    row_of(|j| if gain[j] == ALL {
+// What an hour is worth when so much is taken from it; all ones stay.
+fn worth(gain: u16, by: u16) -> u16 {
+    if gain == ALL {
         ALL
     } else {
-        gain[j].saturating_sub(by)
-    })
+        gain.saturating_sub(by)
+    }
+}
+
+pub(crate) fn worths(gain: &[u16; 16], by: u16, to: &mut [u16; 16]) {
+    for k in 0..16usize {
+        to[k] = worth(gain[k], by);
+    }
 }
 
 // When growers are to be looked at whose hours are worth less than those known before.
-pub(crate) fn look_times(looks: &Row, by: &Row, worth: &Row, most: &Row, now: u16) -> Row {
-    row_of(|j| if by[j] == 0 {
-        looks[j]
-    } else {
-        worth[j].saturating_sub(most[j]).saturating_add(now)
-    })
+pub(crate) fn look_times(
+    looks: &mut [u16; 16],
+    by: &[u16; 16],
+    worth: &[u16; 16],
+    most: &[u16; 16],
+    now: u16,
+) {
+    for k in 0..16usize {
+        looks[k] = unless_less(by[k], looks[k], plus(worth[k].saturating_sub(most[k]), now));
+    }
 }
 
-pub(crate) fn lifted(row: &Row, reached: &Row, by: u16) -> Row {
-    row_of(|j| row[j].saturating_add(by & reached[j]))
+pub(crate) fn lift(row: &mut [u16; 16], reached: &[u16; 16], by: u16) {
+    for j in 0..16usize {
+        row[j] = plus(row[j], by & reached[j]);
+    }
 }

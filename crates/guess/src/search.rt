@@ -1,14 +1,16 @@
 // The search: prices of pilots who tie rise together until somebody finds hours.
-use crate::deals::{has_late, late_grower, takes_tariff};
+use crate::deals::late_grower;
 use crate::events::{Progress, clear, reach, rise, tie};
-use crate::moves::{Room, come, come_by_tariff};
-use crate::pilots::{first_with, has_free};
-use crate::rows;
-use crate::sets::{EVERYBODY, first, without_first};
-use crate::state::{ALL, SOURCE, State};
+use crate::moves::{Displaced, Room, come, come_by_tariff};
+use crate::pilots::{Wanted, first_with};
+use crate::saturating::{ALL, plus};
+use crate::sets::{EVERYBODY, NOBODY, first, without_first};
+use crate::state::{
+    JOINS, LOOKS, PILOT_FREE, ROWS, SOURCE, State, UNSEEN, WITH, WORTHS, least_of, of, place_of,
+    places_of, set,
+};
 use crate::tariffs::{best_outside, tariff_time};
 use crate::ways::{Way, mark, way_to};
-use market::Deal;
 
 // How many events a search may take. Far more than was ever seen.
 const MOST_EVENTS: usize = 2000;
@@ -17,12 +19,19 @@ const MOST_EVENTS: usize = 2000;
 #[derive(Clone, Copy)]
 enum Step {
     On { progress: Progress },
-    Stop { displaced: Option<usize> },
+    Stop { displaced: Displaced },
+}
+
+// A pilot who has room for hours.
+#[derive(Clone, Copy)]
+enum Found {
+    Nobody,
+    Pilot { j: usize, given: Room },
 }
 
 // How a pilot who has a free hour, or else a late one, makes room.
 fn room_of(s: &State, j: usize) -> Room {
-    if 0 < s.pilot_free[j % 16] {
+    if 0 < of(s, PILOT_FREE, j) {
         return Room::FreeHours;
     }
     let k = late_grower(s, j);
@@ -30,32 +39,36 @@ fn room_of(s: &State, j: usize) -> Room {
 }
 
 // One who is reached now and has room; or whose tariff hour becomes late; or whose free-deal hour is worth nothing any more.
-fn find(s: &State, progress: Progress, new: u32, end: u16) -> Option<(usize, Room)> {
-    let with_room = first_with(new, |j| has_free(s, j) | has_late(s, j));
-    if let Some(j) = with_room {
-        return Some((j, room_of(s, j)));
+fn find(s: &State, progress: Progress, new: u32, end: u16) -> Found {
+    let j = first_with(s, new, Wanted::AnyRoom);
+    if j < NOBODY {
+        return Found::Pilot {
+            j,
+            given: room_of(s, j),
+        };
     }
     if progress.late == progress.now {
         let k = late_grower(s, progress.late_pilot);
-        return Some((progress.late_pilot, Room::GivesUpTariff { k }));
+        return Found::Pilot {
+            j: progress.late_pilot,
+            given: Room::GivesUpTariff { k },
+        };
     }
     if end == progress.now {
-        let k = first(rows::places(&s.worths, 1, &s.bits));
-        return Some((place_with(s, k), Room::GivesUpFreeDeal { k }));
+        let k = first(places_of(s, ROWS, WORTHS, 1));
+        return Found::Pilot {
+            j: place_of(s, WITH, k),
+            given: Room::GivesUpFreeDeal { k },
+        };
     }
-    None
-}
-
-// With whom a grower has the least hour of those with pilots reached.
-fn place_with(s: &State, k: usize) -> usize {
-    usize::from(s.with[k % 16]) % 16
+    Found::Nobody
 }
 
 fn by_tariff(s: &mut State, progress: Progress, grower: usize, from: usize, j: usize) -> Step {
     let way = Way {
         grower,
         from,
-        deal: Deal::Tariff,
+        tariff: true,
     };
     Step::Stop {
         displaced: come_by_tariff(&mut *s, progress.root, way, j),
@@ -63,15 +76,15 @@ fn by_tariff(s: &mut State, progress: Progress, grower: usize, from: usize, j: u
 }
 
 // A pilot whose tariff offers a grower at least so much.
-fn tariff_tie(s: &State, grower: usize, worth: u16) -> Option<usize> {
-    first_with(EVERYBODY, |j| takes_tariff(s, grower, j, worth))
+fn tariff_tie(s: &State, grower: usize, worth: u16) -> usize {
+    first_with(s, EVERYBODY, Wanted::Tariff { grower, worth })
 }
 
 // The one who asks is looked at: does a tariff tie?
 fn look_at_root(s: &mut State, progress: Progress) -> Step {
     let worth = progress.top.saturating_sub(progress.now);
-    let tie = tariff_tie(s, progress.root, worth);
-    if let Some(j) = tie {
+    let j = tariff_tie(s, progress.root, worth);
+    if j < NOBODY {
         return by_tariff(&mut *s, progress, progress.root, SOURCE, j);
     }
     let mut next = progress;
@@ -83,29 +96,29 @@ fn look_at_root(s: &mut State, progress: Progress) -> Step {
 fn look_first(s: &mut State, k: usize, from: usize, worth: u16, now: u16) {
     let other = best_outside(&mut *s, k);
     if other < worth {
-        s.looks[k % 16] = now.saturating_add(worth - other);
+        set(&mut *s, LOOKS, k, plus(now, worth - other));
     } else {
-        s.unseen[k % 16] = 0;
+        set(&mut *s, UNSEEN, k, 0);
         tie(&mut *s, k, worth, now, mark(k, from));
         let time = tariff_time(s, k, worth, now);
-        s.looks[k % 16] = time;
+        set(&mut *s, LOOKS, k, time);
     }
 }
 
 fn look_again(s: &mut State, progress: Progress, k: usize, from: usize, worth: u16) -> Step {
-    let tie = tariff_tie(s, k, worth);
-    if let Some(j) = tie {
+    let j = tariff_tie(s, k, worth);
+    if j < NOBODY {
         return by_tariff(&mut *s, progress, k, from, j);
     }
     let time = tariff_time(s, k, worth, progress.now);
-    s.looks[k % 16] = time;
+    set(&mut *s, LOOKS, k, time);
     Step::On { progress }
 }
 
 fn look_at_grower(s: &mut State, progress: Progress, k: usize) -> Step {
-    let worth = s.worths[k % 16];
-    let from = place_with(s, k);
-    if s.unseen[k % 16] == 0 {
+    let worth = of(s, WORTHS, k);
+    let from = place_of(s, WITH, k);
+    if of(s, UNSEEN, k) == 0 {
         look_again(&mut *s, progress, k, from, worth)
     } else {
         look_first(&mut *s, k, from, worth, progress.now);
@@ -115,7 +128,7 @@ fn look_at_grower(s: &mut State, progress: Progress, k: usize) -> Step {
 
 // All growers whose time it is, one after another, until a tariff ties.
 fn look_at_growers(s: &mut State, progress: Progress) -> Step {
-    let mut left = rows::places(&s.looks, progress.now, &s.bits);
+    let mut left = places_of(s, ROWS, LOOKS, progress.now);
     for turn in 0..16usize {
         if left == 0 {
             return Step::On { progress };
@@ -152,7 +165,9 @@ fn go_on(s: &mut State, progress: Progress, new: u32, look: u16) -> Step {
         return look_at_growers(&mut *s, progress);
     }
     if progress.now == progress.top.saturating_sub(1) {
-        return Step::Stop { displaced: None };
+        return Step::Stop {
+            displaced: Displaced::Nobody,
+        };
     }
     Step::On {
         progress: reach_all(&mut *s, progress, new),
@@ -161,7 +176,7 @@ fn go_on(s: &mut State, progress: Progress, new: u32, look: u16) -> Step {
 
 fn joined(s: &State, join: u16, now: u16) -> u32 {
     if join == now {
-        rows::places(&s.joins, now, &s.bits)
+        places_of(s, ROWS, JOINS, now)
     } else {
         0
     }
@@ -176,9 +191,9 @@ struct Times {
 }
 
 fn times_of(s: &State, now: u16) -> Times {
-    let join = rows::least(&s.joins);
-    let end = rows::least(&s.worths).saturating_sub(1).saturating_add(now);
-    let look = rows::least(&s.looks);
+    let join = least_of(s, ROWS, JOINS);
+    let end = plus(least_of(s, ROWS, WORTHS).saturating_sub(1), now);
+    let look = least_of(s, ROWS, LOOKS);
     Times { join, end, look }
 }
 
@@ -193,8 +208,8 @@ fn soonest(progress: Progress, times: Times) -> u16 {
 fn happen(s: &mut State, progress: Progress, new: u32, times: Times) -> Step {
     let found = find(s, progress, new, times.end);
     match found {
-        None => go_on(&mut *s, progress, new, times.look),
-        Some((j, given)) => {
+        Found::Nobody => go_on(&mut *s, progress, new, times.look),
+        Found::Pilot { j, given } => {
             let way = way_to(s, j);
             Step::Stop {
                 displaced: come(&mut *s, progress.root, way, j, given),
@@ -224,7 +239,7 @@ fn begin(s: &mut State, root: usize, top: u16) -> Progress {
     }
 }
 
-pub(crate) fn search(s: &mut State, root: usize, top: u16) -> Option<usize> {
+pub(crate) fn search(s: &mut State, root: usize, top: u16) -> Displaced {
     let mut progress = begin(&mut *s, root, top);
     for event in 0..MOST_EVENTS {
         let step = next_step(&mut *s, progress);
@@ -237,5 +252,5 @@ pub(crate) fn search(s: &mut State, root: usize, top: u16) -> Option<usize> {
             }
         }
     }
-    None
+    Displaced::Nobody
 }

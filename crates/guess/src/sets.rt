@@ -3,9 +3,16 @@
 // All 16.
 pub(crate) const EVERYBODY: u32 = 65535;
 
+// In place of one of them.
+pub(crate) const NOBODY: usize = 16;
+
+fn index(x: u32) -> usize {
+    x as usize
+}
+
 // The first place of a set.
 pub(crate) fn first(places: u32) -> usize {
-    u32::trailing_zeros(places) as usize % 16
+    index(u32::trailing_zeros(places)) % 16
 }
 
 pub(crate) fn bit(i: usize) -> u32 {

@@ -1,14 +1,13 @@
 // Ways over which pilots are reached. A row of the state has the last step to each: 32 times the grower, and the pilot.
 use crate::deals::{less_free_deal, more_free_deal, room};
-use crate::state::{SOURCE, State};
-use market::Deal;
+use crate::state::{FREE_DEAL_HOURS, SOURCE, State, WAYS, get, of};
 
 // The way to a pilot who is reached: the grower who comes, and the pilot whose hours he gives up for it.
 #[derive(Clone, Copy)]
 pub(crate) struct Way {
     pub grower: usize,
     pub from: usize,
-    pub deal: Deal,
+    pub tariff: bool,
 }
 
 // A way has no more steps than there are pilots.
@@ -19,11 +18,11 @@ pub(crate) fn mark(grower: usize, from: usize) -> u16 {
 }
 
 pub(crate) fn way_to(s: &State, l: usize) -> Way {
-    let mark = s.ways[l % 16];
+    let mark = of(s, WAYS, l);
     Way {
         grower: usize::from(mark / 32) % 16,
         from: usize::from(mark % 32),
-        deal: Deal::Free,
+        tariff: false,
     }
 }
 
@@ -52,10 +51,10 @@ pub(crate) fn room_along(s: &State, last: Way, most: u16) -> u16 {
         if SOURCE <= l {
             return x;
         }
-        x = x.min(s.free_deal_hours[grower % 16][l % 16]);
+        x = x.min(get(s, FREE_DEAL_HOURS, grower, l));
         let way = way_to(s, l);
         grower = way.grower;
-        x = x.min(room(s, Deal::Free, grower, l));
+        x = x.min(room(s, false, grower, l));
         l = way.from;
     }
     x
@@ -78,15 +77,15 @@ pub(crate) fn move_along(s: &mut State, last: Way, x: u16) {
 
 // The same for a way that goes round, from pilot j to himself.
 pub(crate) fn room_round(s: &State, last: Way, j: usize, most: u16) -> u16 {
-    let mut x = most.min(s.free_deal_hours[last.grower % 16][last.from % 16]);
+    let mut x = most.min(get(s, FREE_DEAL_HOURS, last.grower, last.from));
     let mut l = last.from;
     for step in 0..MOST_STEPS {
         if l == j {
             return x;
         }
         let way = way_to(s, l);
-        x = x.min(room(s, Deal::Free, way.grower, l));
-        x = x.min(s.free_deal_hours[way.grower % 16][way.from % 16]);
+        x = x.min(room(s, false, way.grower, l));
+        x = x.min(get(s, FREE_DEAL_HOURS, way.grower, way.from));
         l = way.from;
     }
     x

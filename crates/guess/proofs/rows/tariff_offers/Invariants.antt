@@ -1,0 +1,6 @@
+-- `guess::rows::tariff_offers` is safe and ends: every place is one of 16.
+use Rattle.std.proofs.Common.{◌-◌, ◌≤◌}
+use Rattle.guess.proofs.rows.tariff_offers.Given as goal
+
+abbrev pub invariant-loop-j : goal.invariant-loop-j
+invariant-loop-j l = l.j ≤ 16

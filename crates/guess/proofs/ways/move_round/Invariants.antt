@@ -1,0 +1,6 @@
+-- `guess::ways::move_round` is safe and ends: every place is one of 16.
+use Rattle.std.proofs.Common.{◌-◌, ◌≤◌}
+use Rattle.guess.proofs.ways.move_round.Given as goal
+
+abbrev pub invariant-loop-step : goal.invariant-loop-step
+invariant-loop-step l = l.step ≤ 16

@@ -1,0 +1,6 @@
+-- `guess::ways::on_the_way` is safe and ends: every place is one of 16.
+use Rattle.std.proofs.Common.{◌-◌, ◌≤◌}
+use Rattle.guess.proofs.ways.on_the_way.Given as goal
+
+abbrev pub invariant-loop-step : goal.invariant-loop-step
+invariant-loop-step l = l.step ≤ 16

@@ -1,0 +1,6 @@
+-- `guess::ways::room_along` is safe and ends: every place is one of 16.
+use Rattle.std.proofs.Common.{◌-◌, ◌≤◌}
+use Rattle.guess.proofs.ways.room_along.Given as goal
+
+abbrev pub invariant-loop-step : goal.invariant-loop-step
+invariant-loop-step l = l.step ≤ 16
