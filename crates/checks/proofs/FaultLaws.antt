@@ -22,6 +22,11 @@ pub is_ok-true : (c : Checked) → is_ok c ≡ true → c ≡ Ok tt
 is_ok-true (Ok _) e = refl
 is_ok-true (Err w) e = never cc
 
+-- A refusal that is none is passed over.
+pub first-none : (v w : Checked) → v ≡ Ok tt → w ≡ first v w
+first-none (Ok _) w h = refl
+first-none (Err v) w h = never cc
+
 -- A test that must hold and whose refusal is not met holds.
 pub must_holds : (t : Bool) (w : Refusal) → must t w ≡ Ok tt → t ≡ true
 must_holds true w e = refl

@@ -60,8 +60,8 @@ refusals_of (Document.Settlement n m) = settlement_refusals
 abbrev pub Checked : Type 0
 Checked = Result Unit Refusal
 
--- The refusal w unless the test holds.
-abbrev pub must : Bool → Refusal → Checked
+-- The error w unless the test holds.
+abbrev pub must : {E : Type 0} → Bool → E → Result Unit E
 must true w = Ok tt
 must false w = Err w
 

@@ -105,8 +105,8 @@ pub fn refusals_of(document: Document) -> Refusals
     }
 }
 
-// A test that must hold.
-pub fn must(ok: bool, why: Refusal) -> Result<(), Refusal>
+// A test that must hold, and why it is refused where it doesn't.
+pub fn must<E: Copy>(ok: bool, why: E) -> Result<(), E>
     ensures { result ≡ must ok why }
 {
     if ok { Ok(()) } else { Err(why) }

@@ -7,7 +7,8 @@ ghost use Rattle.tables.specs.View.{ticket_of, first_sixteen, across, parties_of
 ghost use Rattle.free_hours.specs.FreeHours.{pair_hours, hours_with, free_of, RowOf};
 
 use numbers::entry;
-use tables::{Quantity, Side};
+use tables::Quantity;
+pub use tables::Side;
 
 // Those with whom a side has its deals.
 fn across(side: Side) -> Side

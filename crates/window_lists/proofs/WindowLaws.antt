@@ -34,10 +34,15 @@ pub refusal_none : (list : List ℕ) → Ok tt ≡ parties_refusal list 0
 unfolding parties_refusal
 refusal_none list = refl
 
-pub refusal_more : (list : List ℕ) (k place : ℕ) (why : Checked) → place ≡ party_place list k → Ok tt ≡ parties_refusal list k →
-    why ≡ party_refusal list place → why ≡ parties_refusal list (k + 1)
+pub refusal_more : (list : List ℕ) (k place : ℕ) (why : Checked) → place ≡ party_place list k → why ≡ parties_refusal list k →
+    first why (party_refusal list place) ≡ parties_refusal list (k + 1)
 unfolding parties_refusal
-refusal_more list k place why e f g = rw (add-one k, ← f, g, e)
+refusal_more list k place why e f = rw (add-one k, e, f)
+
+-- Where none of those before is refused.
+pub refusal_next : (list : List ℕ) (k place : ℕ) (why : Checked) → place ≡ party_place list k → Ok tt ≡ parties_refusal list k →
+    why ≡ party_refusal list place → why ≡ parties_refusal list (k + 1)
+refusal_next list k place why e f g = g ∙ refusal_more list k place (Ok tt) e f
 
 -- What is refused of the first parties is refused of all.
 refused_on : (list : List ℕ) (k more : ℕ) (why : Refusal) → Err why ≡ parties_refusal list k → Err why ≡ parties_refusal list (more + k)
@@ -50,7 +55,7 @@ pub refused : (list : List ℕ) (k parties place : ℕ) (why : Refusal) → k < 
     Ok tt ≡ parties_refusal list k → Err why ≡ party_refusal list place → Err why ≡ windows_refusal list parties
 refused list k parties place why h e f g =
     let all : Err why ≡ parties_refusal list (parties - (k + 1) + (k + 1)) =
-    refused_on list (k + 1) (parties - (k + 1)) why (refusal_more list k place (Err why) e f g) in
+    refused_on list (k + 1) (parties - (k + 1)) why (refusal_next list k place (Err why) e f g) in
     let n : parties - (k + 1) + (k + 1) ≡ parties = omega arith in
     let same : Err why ≡ parties_refusal list parties = rw n at all in
     rw (← same)

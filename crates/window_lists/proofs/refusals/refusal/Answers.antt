@@ -2,7 +2,7 @@
 use mathlib.Core.Path.{◌∙◌}
 use Rattle.std.proofs.Common.{rules}
 use native.Mathlib.Omega.{arith}
-use Rattle.window_lists.proofs.WindowLaws.{place_none, place_more, refusal_none, refusal_more, refused, met_is}
+use Rattle.window_lists.proofs.WindowLaws.{place_none, place_more, refusal_none, refusal_next, refused, met_is}
 use Rattle.window_lists.proofs.refusals.refusal.Goals as goal
 
 pub loop-k-init : goal.loop-k-init
@@ -13,7 +13,7 @@ loop-k-preserved c = let list = c.args.list.now in (
   omega arith,
   omega arith,
   c.next_place-place.ensures.0 ∙ place_more list _ _ c.loop-k.invariant.2,
-  refusal_more list _ _ _ c.loop-k.invariant.2 c.loop-k.invariant.3 c.in_ok-party_refusal.ensures,
+  refusal_next list _ _ _ c.loop-k.invariant.2 c.loop-k.invariant.3 c.in_ok-party_refusal.ensures,
 )
 
 pub returns-in_err-party_refusal : goal.returns-in_err-party_refusal
