@@ -24,12 +24,11 @@ fn hours_pass(list: &[u16], parties: usize) -> bool
     requires { 3 + parties ≤ length list.now }
     ensures { result ≡ hours_pass list.now parties }
 {
-    list[HEAD..HEAD + parties].iter().all(|&hours| fault_of(
-        Field::Hours,
-        0,
-        false,
-        usize::from(hours),
-    ).is_ok())
+    let mut pass = true;
+    for &hours in &list[HEAD..HEAD + parties] {
+        pass = pass & fault_of(Field::Hours, 0, false, usize::from(hours)).is_ok();
+    }
+    pass
 }
 
 // Whether the five numbers from a place on have no fault.
@@ -100,7 +99,12 @@ fn ticket_passes(list: &[u16]) -> bool
 fn all_fit(list: &[u16]) -> bool
     ensures { result ≡ all_fit list.now }
 {
-    list.iter().all(|&x| fits(usize::from(x)))
+    let mut pass = true;
+    // Joined by `&`: no branch depends on the numbers, as it would in `all`.
+    for &x in list {
+        pass = pass & fits(usize::from(x));
+    }
+    pass
 }
 
 // No settlement of more growers or pilots than a square has room for passes.
