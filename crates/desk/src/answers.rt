@@ -9,20 +9,22 @@ use printing::{Document, FreeHours, Refused, Sheet};
 use tables::Side;
 use words::Reason;
 
-// The market after a call that sets something. Why it was refused is told after the answer.
-fn set(rt: &HostRuntime, market: Market, outcome: Result<Market, Refusal>) -> Result<Market, Told> {
+// What a call that sets something answers. Why it was refused is told after the answer.
+fn tell_set(rt: &HostRuntime, outcome: Result<Market, Refusal>) -> Result<(), Told> {
     match outcome {
-        Ok(after) => {
-            print(rt, &"OK\n")?;
-            Ok(after)
-        }
+        Ok(_) => print(rt, &"OK\n"),
         Err(why) => {
             let done = print(rt, &Refused { why });
             message(rt, &Reason { why });
-            done?;
-            Ok(market)
+            done
         }
     }
+}
+
+// The market after a call that sets something.
+fn set(rt: &HostRuntime, market: Market, outcome: Result<Market, Refusal>) -> Result<Market, Told> {
+    tell_set(rt, outcome)?;
+    Ok(open_market::market_after(outcome, market))
 }
 
 fn show_sheet(rt: &HostRuntime, market: Market) -> Result<(), Told> {

@@ -3,7 +3,7 @@
 use Rattle.std.specs.Prelude.{Result, Ok, Err}
 use Rattle.checks.specs.declared.refusals.Refusal.{Refusal}
 use Prim.Native.Nat.{ℕ, ◌≤◌}
-use mathlib.Core.Path.{◌≡◌, ap, ap₂, ◌∙◌}
+use mathlib.Core.Path.{◌≡◌, refl, sym, subst, ap, ap₂, ◌∙◌}
 use mathlib.Core.List.{List}
 use native.Mathlib.Omega.{arith}
 use borrow.Author.Tests.{le-leb}
@@ -12,9 +12,11 @@ use lib.Seq.{sets}
 use Rattle.reader.specs.Answer.{unpacked, reply, kept}
 use Rattle.reader.proofs.Facts.{unpacked_shape, reply_refused, reply_done}
 use Rattle.ticket_calls.specs.Calls.{Call, refusal_of, after}
-use Rattle.ticket_calls.proofs.RefusalLaws.{after_accepted}
+use Rattle.ticket_calls.proofs.RefusalLaws.{after_accepted, after_refused}
+use Rattle.checks.specs.Refusals.{Checked}
+use Rattle.grid.proofs.Cases.{never}
 use Rattle.open_market.specs.declared.held.Market.{Market}
-use Rattle.open_market.specs.Markets.{Settled, Opened, Called}
+use Rattle.open_market.specs.Markets.{Settled, Answered, Opened, Called, CalledAfter, market_after}
 
 -- A call that is refused, and one that is not.
 pub refused_called : (c : Call) (market : Market) (w : Refusal) (r : Result Market Refusal) → refusal_of c market.ticket ≡ Err w → r ≡ Err w →
@@ -25,6 +27,23 @@ pub accepted_called : (c : Call) (market : Market) (ticket : List ℕ) (next : M
     refusal_of c market.ticket ≡ Ok tt → ticket ≡ after c market.ticket → Settled ticket next → r ≡ Ok next → Called c market r
 accepted_called c market ticket next r e f s g =
     rw e (next, g, record { ticket_held = s.ticket_held ∙ f ∙ after_accepted c market.ticket e; settled = s.settled })
+
+-- What is held after a call, by its answer.
+pub called_after : (c : Call) (market : Market) (r : Result Market Refusal) → Called c market r → CalledAfter c market (market_after r market)
+called_after c market r called = go (refusal_of c market.ticket) refl called
+  where
+    go : (w : Checked) → refusal_of c market.ticket ≡ w → Answered w (after c market.ticket) r →
+        CalledAfter c market (market_after r market)
+    go (Ok u) e a = subst (λ (q : Result Market Refusal). CalledAfter c market (market_after q market)) (sym a.1) (record {
+      ticket = a.2.ticket_held;
+      kept = λ w f. let g : Ok u ≡ Err w = sym e ∙ f in never cc;
+      settled = λ f. a.2.settled;
+    })
+    go (Err w) e a = subst (λ (q : Result Market Refusal). CalledAfter c market (market_after q market)) (sym a) (record {
+      ticket = sym (after_refused c market.ticket w e);
+      kept = λ v f. refl;
+      settled = λ f. let g : Err w ≡ Ok tt = sym e ∙ f in never cc;
+    })
 
 -- Markets that hold the same are the same.
 pub same_market : (m m' : Market) → m.ticket ≡ m'.ticket → m.settlement ≡ m'.settlement →

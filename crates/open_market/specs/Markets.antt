@@ -51,6 +51,12 @@ abbrev pub market_after : Result Market Refusal → Market → Market
 market_after (Ok next) market = next
 market_after (Err w) market = market
 
+-- What is held after a call: a refused one leaves the market as it was, an accepted one the ticket after it, settled.
+pub record CalledAfter (c : Call) (market : Market) (next : Market) : Type 0 where
+  pub ticket : next.ticket ≡ after c market.ticket
+  pub kept : (w : Refusal) → refusal_of c market.ticket ≡ Err w → next ≡ market
+  pub settled : refusal_of c market.ticket ≡ Ok tt → IsSettled next
+
 -- One call more, after others that came to a refusal, or to none, and to a market: the first refusal stays.
 pub record Next (c : Call) (before : Checked) (market : Market) (told : Checked) (next : Market) : Type 0 where
   pub answer : Result Market Refusal

@@ -6,7 +6,7 @@ mod held;
 mod opening;
 mod replaying;
 
-pub use calls::{set_grower_hours, set_pair, set_pilot_hours};
+pub use calls::{market_after, set_grower_hours, set_pair, set_pilot_hours};
 pub use held::Market;
 pub use offers::Terms;
 pub use opening::open;

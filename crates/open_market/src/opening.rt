@@ -9,6 +9,8 @@ pub fn open(file: &[u8]) -> Result<Market, Refusal>
     ensures { Opened file.now result }
 {
     let mut ticket = numbers::ticket_list();
-    reader::unpack(file, &mut ticket)?;
-    Ok(settled(ticket))
+    match reader::unpack(file, &mut ticket) {
+        Ok(_) => Ok(settled(ticket)),
+        Err(why) => Err(why),
+    }
 }

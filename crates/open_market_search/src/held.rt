@@ -142,7 +142,7 @@ pub(crate) fn after(held: Held, call: &[u16; 8], tally: &mut [usize; 17]) -> Hel
     let made = answer(held.market, call);
     let told = answered(held.ticket, call);
     let after = Held {
-        market: made.unwrap_or(held.market),
+        market: open_market::market_after(made, held.market),
         ticket: told.unwrap_or(held.ticket),
         refused: held.refused.or(told.err()),
     };
