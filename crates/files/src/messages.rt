@@ -1,6 +1,6 @@
 // Messages, on standard error. Each is a line that begins with `exchange: `.
 use crate::printed::{Text, write_text};
-use crate::reasons::{is_unread, reason_in, told};
+use crate::reasons::{Reason, is_unread};
 use std::io::{Error, Result, Write};
 
 // What is said of a file, after the name that the user gave it.
@@ -42,7 +42,7 @@ pub fn fail(rt: &HostRuntime, name: &[u8], error: Error) {
     if is_unread(&error) {
         return;
     }
-    let whole = told(rt, &error);
-    let text = reason_in(&error, whole.as_str());
+    let reason = Reason::of(&error);
+    let text = reason.as_str();
     message(rt, &About { name, text });
 }

@@ -22,13 +22,15 @@ pub struct Told;
 // Most texts are shorter, and so are written at once.
 const PAGE: usize = 65536;
 
-// Writes a text, and what fails is not tried again.
+// Writes a text, and what fails is not tried again. Where there is no memory for the buffer its parts are written one by one.
 pub(crate) fn write_text<W: Write + Drop>(
     rt: &HostRuntime,
-    out: W,
+    mut out: W,
     text: &impl Text,
 ) -> Result<()> {
-    let mut page = BufWriter::with_capacity(rt.alloc(), PAGE, out)?;
+    let Ok(mut page) = BufWriter::with_capacity(rt.alloc(), PAGE, &mut out) else {
+        return text.write(&mut out);
+    };
     let mut done = text.write(&mut page);
     if done.is_ok() {
         done = page.flush();
@@ -43,7 +45,7 @@ pub fn print(rt: &HostRuntime, text: &impl Text) -> std::result::Result<(), Told
         Ok(()) => Ok(()),
         Err(error) => {
             if !is_unread(&error) {
-                tell(rt, "exchange: standard output", error);
+                tell(rt, b"exchange: standard output", error);
             }
             Err(Told)
         }

@@ -1,5 +1,5 @@
 // Writing a file, so that no half of it ever stands under its name. What fails is told on standard error, with the system's reason.
-use crate::links::{beside, followed};
+use crate::links::{NewName, beside, followed};
 use crate::messages::fail;
 use crate::names::name_of;
 use crate::printed::Told;
@@ -35,7 +35,7 @@ fn create(rt: &HostRuntime, name: &str, rights: u32) -> io::Result<File> {
 #[derive(Drop)]
 struct NewFile {
     file: File,
-    name: String,
+    name: NewName,
 }
 
 // A new file beside another, under a name that nobody has.
@@ -66,11 +66,15 @@ fn new_file(rt: &HostRuntime, target: &str, old: Option<&File>) -> io::Result<Ne
 // Writes a new file beside the one that is named, or beside the one that its link leads to, and gives it that name once it is whole: the
 // old one stays as it was until then. Where that fails the new file is removed.
 fn replace(rt: &HostRuntime, name: &str, old: Option<&File>, bytes: &[u8]) -> io::Result<()> {
-    let target = followed(rt, name)?;
-    let NewFile { file, name: new } = new_file(rt, target.as_str(), old)?;
+    let link = followed(rt, name)?;
+    let target = match &link {
+        Some(path) => path.as_str(),
+        None => name,
+    };
+    let NewFile { file, name: new } = new_file(rt, target, old)?;
     let mut done = store(file, bytes);
     if done.is_ok() {
-        done = fs::rename(rt, new.as_str(), target.as_str());
+        done = fs::rename(rt, new.as_str(), target);
     }
     if done.is_err() {
         let _ = fs::remove_file(rt, new.as_str());

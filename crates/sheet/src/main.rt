@@ -11,7 +11,7 @@ fn print(rt: &HostRuntime, ticket: &[u8]) {
     let mut text = [0u8; sheets::PAGE];
     if let Ok(count) = sheets::sheet(ticket, &mut text) {
         if let Err(error) = rt.write_all(ascii::front(&text, count)) {
-            files::tell(rt, "sheet: standard output", error);
+            files::tell(rt, b"sheet: standard output", error);
         }
     }
 }
@@ -20,6 +20,6 @@ fn main(rt: HostRuntime) {
     let mut ticket = ticket_bytes();
     match files::fill(&mut rt.stdin(), &mut ticket) {
         Ok(length) => print(&rt, ascii::front(&ticket, length)),
-        Err(error) => files::tell(&rt, "sheet: standard input", error),
+        Err(error) => files::tell(&rt, b"sheet: standard input", error),
     }
 }
