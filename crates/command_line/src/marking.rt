@@ -9,7 +9,7 @@ use files::{Text, Told, print};
 use market::Deal;
 use printing::Refused;
 use std::fmt;
-use std::io::{Error, Result as Written, Write};
+use std::io::{Result as Written, Write};
 use verdicts::Verdict;
 use words::{Explained, Finding, Settled};
 
@@ -148,25 +148,6 @@ fn label_of<'a>(asked: Asked, name: &'a [u8]) -> Label<'a> {
     }
 }
 
-// Every fault, where all are asked for.
-fn listed(
-    rt: &HostRuntime,
-    asked: Asked,
-    name: &[u8],
-    settled: Settled,
-) -> Result<Vec<Verdict>, Told> {
-    if !asked.all {
-        return Ok(Vec::new(rt.alloc()));
-    }
-    match words::faults_of(rt.alloc(), settled) {
-        Ok(faults) => Ok(faults),
-        Err(error) => {
-            files::fail(rt, name, Error::from(error));
-            Err(Told)
-        }
-    }
-}
-
 // Says which settlement is refused.
 fn refuse(
     rt: &HostRuntime,
@@ -228,6 +209,23 @@ fn tell<'x>(
     print(rt, &marked)
 }
 
+// The same with every fault.
+fn tell_all<'x>(
+    rt: &HostRuntime,
+    asked: Asked,
+    name: &'x [u8],
+    ticket: &'x [u8],
+    settlement: &'x [u8],
+    settled: Settled<'x>,
+    verdict: Verdict,
+) -> Result<(), Told> {
+    let mut list = [verdict; words::MOST_FAULTS];
+    let faults = words::faults_of(settled, &mut list);
+    tell(
+        rt, asked, name, ticket, settlement, settled, verdict, faults,
+    )
+}
+
 fn judge<'x>(
     rt: &HostRuntime,
     asked: Asked,
@@ -242,11 +240,11 @@ fn judge<'x>(
         settlement: agreed,
     };
     let verdict = marker::mark(ticket, settlement);
-    let list = listed(rt, asked, name, settled)?;
-    let faults = list.as_slice();
-    tell(
-        rt, asked, name, ticket, settlement, settled, verdict, faults,
-    )?;
+    if asked.all {
+        tell_all(rt, asked, name, ticket, settlement, settled, verdict)?;
+    } else {
+        tell(rt, asked, name, ticket, settlement, settled, verdict, &[])?;
+    }
     Ok(Status::from(verdict))
 }
 

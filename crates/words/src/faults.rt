@@ -3,7 +3,6 @@
 use crate::settlements::Settled;
 use crate::spares::{cheapest, flown};
 use market::Deal;
-use std::alloc::{AllocError, Global};
 use tables::{Quantity, Side};
 use verdicts::{Verdict, deal_fault, pair_fault};
 
@@ -83,36 +82,43 @@ fn of_deal(settled: Settled, i: u16, j: u16, deal: Deal) -> Option<Verdict> {
     )
 }
 
-fn add(found: &mut Vec<Verdict>, fault: Option<Verdict>) -> Result<(), AllocError> {
-    if let Some(verdict) = fault {
-        found.push(verdict)?;
+// Of a pair three faults and two deals, and everybody's hours: as many as there can be.
+pub const MOST_FAULTS: usize = 1312;
+
+fn add(list: &mut [Verdict], count: usize, fault: Option<Verdict>) -> usize {
+    match fault {
+        Some(verdict) if count < list.len() => {
+            list[count] = verdict;
+            count + 1
+        }
+        _ => count,
     }
-    Ok(())
 }
 
-// By the numbers of the two: a pair is looked up in both lists.
-pub fn faults_of(alloc: Global, settled: Settled) -> Result<Vec<Verdict>, AllocError> {
+// Lists the faults of a settlement from the front of a lent list, as far as it goes, and answers them. By the numbers of the two: a pair is
+// looked up in both lists.
+pub fn faults_of<'l>(settled: Settled, list: &'l mut [Verdict]) -> &'l [Verdict] {
     let growers = settled.parties(Side::Growers);
     let pilots = settled.parties(Side::Pilots);
-    let mut found = Vec::new(alloc);
+    let mut count = 0;
     for i in 0..growers {
         for j in 0..pilots {
             for fault in of_pair(settled, i, j) {
-                add(&mut found, fault)?;
+                count = add(&mut *list, count, fault);
             }
         }
     }
     for side in [Side::Growers, Side::Pilots] {
         for who in 0..settled.parties(side) {
-            add(&mut found, of_party(settled, side, who))?;
+            count = add(&mut *list, count, of_party(settled, side, who));
         }
     }
     for i in 0..growers {
         for j in 0..pilots {
             for deal in [Deal::Tariff, Deal::Free] {
-                add(&mut found, of_deal(settled, i, j, deal))?;
+                count = add(&mut *list, count, of_deal(settled, i, j, deal));
             }
         }
     }
-    Ok(found)
+    &list[..count.min(list.len())]
 }

@@ -7,7 +7,7 @@ mod meaning;
 mod settlements;
 mod spares;
 
-pub use faults::faults_of;
+pub use faults::{MOST_FAULTS, faults_of};
 pub use meaning::{Explained, Finding, Reason, is_of_ticket};
 pub use settlements::Settled;
 pub use spares::flown;

@@ -22,8 +22,8 @@ fn write_meaning<W: fmt::Write>(
 }
 
 // Whether it is the ticket that is refused, of a ticket and a settlement: 11 to 17 are those of the settlement. By number, as in docs/FORMAT.md.
-pub fn is_of_ticket(why: Refusal) -> bool {
-    let number = u8::from(why);
+pub fn is_of_ticket(why: impl Into<u8>) -> bool {
+    let number: u8 = why.into();
     number < 11 || number == 18
 }
 

@@ -23,18 +23,26 @@ impl Spare {
     }
 }
 
-// The row of a grower, or the column of a pilot.
-fn line(square: [[u16; 16]; 16], side: Side, who: usize) -> [u16; 16] {
-    match side {
-        Side::Growers => {
-            if who < 16 {
-                square[who]
-            } else {
-                grid::zero_row()
-            }
+// A quantity in the row of a grower, or in the column of a pilot, as far as a square reaches: 0 past the last partner. By number, one for
+// each partner: a square of all pairs would be read for one row of it.
+fn line(list: &[u16], quantity: Quantity, side: Side, who: usize) -> [u16; 16] {
+    let growers = numbers::within(tables::growers(list));
+    let pilots = numbers::within(tables::pilots(list));
+    let (parties, partners) = match side {
+        Side::Growers => (growers, pilots),
+        Side::Pilots => (pilots, growers),
+    };
+    let mut row = grid::zero_row();
+    if who < parties {
+        for l in 0..partners {
+            let (i, j) = match side {
+                Side::Growers => (who, l),
+                Side::Pilots => (l, who),
+            };
+            row[l] = numbers::entry(list, tables::place(list, quantity, i as u16, j as u16));
         }
-        Side::Pilots => square.map(|row| numbers::entry(&row, who)),
     }
+    row
 }
 
 // What somebody has with each partner: his hours in both deals, and what an hour of each earns him.
@@ -56,18 +64,14 @@ fn all_less(from: [u16; 16], what: [u16; 16]) -> [u16; 16] {
 }
 
 fn agreed(settled: Settled, quantity: Quantity, side: Side, who: usize) -> [u16; 16] {
-    line(tables::square(settled.settlement, quantity), side, who)
+    line(settled.settlement, quantity, side, who)
 }
 
 fn dealings_of(settled: Settled, side: Side, who: usize) -> Dealings {
     let pay = agreed(settled, Quantity::Pay, side, who);
     let (earned, share) = match side {
         Side::Growers => {
-            let joint_gain = line(
-                tables::square(settled.ticket, Quantity::JointGain),
-                side,
-                who,
-            );
+            let joint_gain = line(settled.ticket, Quantity::JointGain, side, who);
             (Quantity::TariffGain, all_less(joint_gain, pay))
         }
         Side::Pilots => (Quantity::TariffPay, pay),
@@ -75,7 +79,7 @@ fn dealings_of(settled: Settled, side: Side, who: usize) -> Dealings {
     Dealings {
         tariff: agreed(settled, Quantity::TariffHours, side, who),
         free: agreed(settled, Quantity::FreeDealHours, side, who),
-        earned: line(tables::square(settled.ticket, earned), side, who),
+        earned: line(settled.ticket, earned, side, who),
         share,
     }
 }
