@@ -10,8 +10,6 @@ mod settled;
 mod tally;
 mod worths;
 
-use std::io;
-
-fn main(rt: HostRuntime) -> io::Result<()> {
-    grids::all(&rt)
+fn main(rt: HostRuntime) {
+    grids::all(&rt);
 }
